@@ -1,0 +1,4 @@
+pub mod Curves
+pub mod Goods
+pub mod Rows
+pub mod Whens
