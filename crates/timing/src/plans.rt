@@ -78,7 +78,8 @@ impl Plan {
     pub fn numbers(&self) -> Numbers
         ensures { λ r. ⌜ r ≡ now (self .entry) .numbers ⌝ }
     {
-        self.numbers
+        let Plan { numbers, .. } = *self;
+        numbers
     }
 
     // The ticks of a line: its blanking, then one for each dot.

@@ -1,0 +1,69 @@
+// The commands, and how a line is read as one.
+use std::alloc::AllocError;
+use std::alloc::Global;
+use timing::Dot;
+
+#[derive(Drop)]
+pub enum Command {
+    // the numbers as they are written, however many
+    Plan(Vec<u32>),
+    When(Dot),
+    At(u32),
+    Help,
+    // a line that asks nothing: blank, or a remark after '#'
+    Nothing,
+}
+
+// A row of digits with no zero before it. One too large for its type is the largest that its type has, which is out of every range.
+fn number(word: &str) -> Option<u32> {
+    if word.is_empty() || word.len() > 1 && word.starts_with('0') {
+        return None;
+    }
+    let mut n: u32 = 0;
+    for b in word.bytes() {
+        if !b.is_ascii_digit() {
+            return None;
+        }
+        n = n.saturating_mul(10).saturating_add((b - b'0') as u32);
+    }
+    Some(n)
+}
+
+// Numbers with one space between each two.
+fn numbers(heap: Global, text: &str) -> Result<Option<Vec<u32>>, AllocError> {
+    let mut row = Vec::new(heap);
+    for word in text.split(' ') {
+        let Some(n) = number(word) else {
+            return Ok(None);
+        };
+        row.push(n)?;
+    }
+    Ok(Some(row))
+}
+
+// None where the line is no command.
+pub fn read(heap: Global, line: &str) -> Result<Option<Command>, AllocError> {
+    if line.is_empty() || line.starts_with('#') {
+        return Ok(Some(Command::Nothing));
+    }
+    if line == "help" {
+        return Ok(Some(Command::Help));
+    }
+    if line == "plan" {
+        return Ok(Some(Command::Plan(Vec::new(heap))));
+    }
+    let Some((word, rest)) = line.split_once(' ') else {
+        return Ok(None);
+    };
+    let Some(row) = numbers(heap, rest)? else {
+        return Ok(None);
+    };
+    Ok(
+        match (word, row.as_slice()) {
+            ("plan", _) => Some(Command::Plan(row)),
+            ("when", [x, y]) => Some(Command::When(Dot { x: *x, y: *y })),
+            ("at", [tick]) => Some(Command::At(*tick)),
+            _ => None,
+        },
+    )
+}
