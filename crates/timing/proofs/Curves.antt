@@ -48,7 +48,7 @@ takes-dark : (p : Numbers) (t : ℕ) → t < p .vblank → takes p t ≡ false
 unfolding takes
 takes-dark p t h = grind (arith, tells)
 
-takes-past : (p : Numbers) (t : ℕ) → frame-ticks p ≤ t → takes p t ≡ false
+pub takes-past : (p : Numbers) (t : ℕ) → frame-ticks p ≤ t → takes p t ≡ false
 unfolding takes
 takes-past p t h = grind (arith, tells)
 

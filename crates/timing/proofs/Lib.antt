@@ -1,4 +1,5 @@
 pub mod Curves
+pub mod Dues
 pub mod Goods
 pub mod Rows
 pub mod Whens

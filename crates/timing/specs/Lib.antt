@@ -1,3 +1,4 @@
 pub mod Frame
 pub mod Good
 pub mod Row
+pub mod Scan
