@@ -1,0 +1,4 @@
+pub mod Law
+pub mod Model
+pub mod Panel
+pub mod Refusal

@@ -1,0 +1,26 @@
+-- The plain panel, which gives a place back as it takes the dot. Assumes nothing: these are definitions.
+use mathlib.Core.Bool.{Bool, true, false, _&&_, _||_, not, cond}
+use mathlib.Core.Path.{_≡_}
+use Prim.Native.Nat.{ℕ, suc, _+_, _≤_, _<_, min}
+use lib.Dec.{leb, ltb, eqb}
+use Rattle.timing.specs.Frame.{frame-ticks, frame-dots, takes, taken}
+use Rattle.timing.specs.declared.numbers.Numbers.{Numbers}
+use Rattle.feeder.specs.Model.{Demand, after, after-answer, after-take, after-ask, after-tick, uses, asked, next-request}
+use Rattle.feeder.specs.declared.states.Progress.{Progress}
+
+unfoldable pub demand-of : Numbers → Demand
+demand-of p = record { need = taken p; free = taken p; total = frame-dots p; capacity = p .capacity; burst = p .burst; latency = p .latency }
+
+-- the rule: the memory brings at once as many dots as an answer takes ticks; there is room for a burst and one dot less than an answer takes ticks; the frame begins as late as an answer may come
+unfoldable pub in-time : Numbers → Bool
+in-time p = leb (p .latency) (p .burst) && (leb (p .burst + p .latency) (p .capacity + 1) && leb (p .latency) (p .vblank))
+
+-- the feeder is one that a frame reaches before tick t, by some way of answering
+abbrev pub Reached : Numbers → ℕ → Progress → Type 0
+Reached p t f = ∥ ((w : ℕ → Bool) × (after (demand-of p) w t ≡ f)) ∥₁
+
+-- numbers that a feeder can have before tick t
+unfoldable pub accepted : Numbers → ℕ → Progress → Bool
+accepted p t f =
+    leb (f .arrived) (f .requested) && (leb (f .requested) (frame-dots p) && (leb (f .requested) (taken p t + p .capacity) && (ltb (f .waited) (p .latency)
+      && (leb (f .requested) (f .arrived + p .burst) && cond (f .pending) (ltb (f .arrived) (f .requested)) (eqb (f .requested) (f .arrived) && eqb (f .waited) 0)))))
