@@ -36,28 +36,53 @@ kept-answer : (d : Demand) (w : Bool) (t : ℕ) (f : Progress) → Sound d → K
 unfolding after-answer answers answered waiting
 kept-answer d w t f sound k = cond-both (answers d w f) (answered f) (waiting f) (Kept d t)
     (λ yes. record {
-      order = omega arith; total = k .total; room = k .room; burst = omega arith; time = sound .late;
-      awaits = λ e. absurd (both-ways _ refl e); idle = λ e. (refl, refl) })
+      order = omega arith;
+      total = k .total;
+      room = k .room;
+      burst = omega arith;
+      time = sound .late;
+      awaits = λ e. absurd (both-ways _ refl e);
+      idle = λ e. (refl, refl);
+    })
     (λ not-yet. record {
-      order = k .order; total = k .total; room = k .room; burst = k .burst; time = grind (arith, tells, k .time);
-      awaits = k .awaits; idle = λ e. (k .idle e .0, ap (λ b. cond b (f .waited + 1) 0) e) })
+      order = k .order;
+      total = k .total;
+      room = k .room;
+      burst = k .burst;
+      time = grind (arith, tells, k .time);
+      awaits = k .awaits;
+      idle = λ e. (k .idle e .0, ap (λ b. cond b (f .waited + 1) 0) e);
+    })
 
 kept-take : (d : Demand) (t : ℕ) (f : Progress) → Sound d → Kept d t f → Kept d (suc t) (after-take d t f)
 unfolding after-take
 kept-take d t f sound k = record {
-    order = k .order; total = k .total; room = omega (arith, k .room, sound .frees t); burst = k .burst; time = k .time; awaits = k .awaits; idle = k .idle }
+  order = k .order;
+  total = k .total;
+  room = omega (arith, k .room, sound .frees t);
+  burst = k .burst;
+  time = k .time;
+  awaits = k .awaits;
+  idle = k .idle;
+}
 
 kept-ask : (d : Demand) (t : ℕ) (f : Progress) → Sound d → Kept d (suc t) f → Kept d (suc t) (after-ask d t f)
 unfolding after-ask asks asked next-request
 kept-ask d t f sound k = cond-both (asks d t f) (asked d f) f (Kept d (suc t))
     (λ yes.
-      let still : f .pending ≡ false = grind (arith, tells) in
-      let left : f .requested < d .total = grind (arith, tells) in
-      let fits : min (f .requested + d .burst) (d .total) ≤ d .free (suc t) + d .capacity = grind (arith, tells) in
-      let same = k .idle still .0 in
-      record {
-        order = omega arith; total = omega arith; room = fits; burst = omega arith; time = sound .late;
-        awaits = λ e. omega (arith, sound .some); idle = λ e. absurd (both-ways _ e refl) })
+    let still : f .pending ≡ false = grind (arith, tells) in
+    let left : f .requested < d .total = grind (arith, tells) in
+    let fits : min (f .requested + d .burst) (d .total) ≤ d .free (suc t) + d .capacity = grind (arith, tells) in
+    let same = k .idle still .0 in
+    record {
+      order = omega arith;
+      total = omega arith;
+      room = fits;
+      burst = omega arith;
+      time = sound .late;
+      awaits = λ e. omega (arith, sound .some);
+      idle = λ e. absurd (both-ways _ e refl);
+    })
     (λ no-request. k)
 
 pub kept-tick : (d : Demand) (w : Bool) (t : ℕ) (f : Progress) → Sound d → Kept d t f → Kept d (suc t) (after-tick d w t f)
@@ -67,8 +92,14 @@ kept-tick d w t f sound k = kept-ask d t _ sound (kept-take d t _ sound (kept-an
 pub kept : (d : Demand) (w : ℕ → Bool) (t : ℕ) → Sound d → Kept d t (after d w t)
 unfolding after begun
 kept d w zero sound = record {
-    order = omega arith; total = omega arith; room = omega arith; burst = omega arith; time = sound .late;
-    awaits = λ e. absurd (both-ways _ refl e); idle = λ e. (refl, refl) }
+  order = omega arith;
+  total = omega arith;
+  room = omega arith;
+  burst = omega arith;
+  time = sound .late;
+  awaits = λ e. absurd (both-ways _ refl e);
+  idle = λ e. (refl, refl);
+}
 kept d w (suc t) sound = kept-tick d (w t) t (after d w t) sound (kept d w t sound)
 
 -- what a tick does to the two numbers that the law is about
@@ -82,7 +113,7 @@ unfolding after-tick after-ask asked after-take after-answer answered waiting
 tick-underrun d w t f =
     let same : after-answer d w f .underrun ≡ f .underrun = cond-both (answers d w f) _ _ (λ (x : Progress). x .underrun ≡ f .underrun) (λ yes. refl) (λ not-yet. refl) in
     cond-both (asks d t (after-take d t (after-answer d w f))) _ _ (λ (x : Progress). x .underrun ≡ (f .underrun || misses d t (after-answer d w f)))
-      (λ yes. ap (λ b. b || misses d t (after-answer d w f)) same) (λ no-request. ap (λ b. b || misses d t (after-answer d w f)) same)
+    (λ yes. ap (λ b. b || misses d t (after-answer d w f)) same) (λ no-request. ap (λ b. b || misses d t (after-answer d w f)) same)
 
 answer-rises : (d : Demand) (w : Bool) (t : ℕ) (f : Progress) → Kept d t f → f .arrived ≤ after-answer d w f .arrived
 unfolding after-answer answered waiting
@@ -103,29 +134,31 @@ module _ (d : Demand) (sound : Sound d) (timely : Timely d) where
   unfolding after-answer answers answered waiting
   midway w t f k a = cond-both (answers d w f) (answered f) (waiting f) (Midway d t)
       (λ yes.
-        let on : f .pending ≡ true = grind (arith, tells) in
-        let ahead = a .awaited on in
-        let used : d .need t ≤ f .arrived = omega (arith, need-mono d sound t (t + (d .latency - 1 - f .waited)) (omega arith)) in
-        record {
-          awaited = λ e. absurd (both-ways _ refl e);
-          unasked = λ e. (refl, ⊎-elim (λ h. inr (omega (arith, timely .rate t))) (λ h. inl (omega (arith, k .total))) (cases-lt (f .arrived + d .burst) (d .total))) })
+      let on : f .pending ≡ true = grind (arith, tells) in
+      let ahead = a .awaited on in
+      let used : d .need t ≤ f .arrived = omega (arith, need-mono d sound t (t + (d .latency - 1 - f .waited)) (omega arith)) in
+      record {
+        awaited = λ e. absurd (both-ways _ refl e);
+        unasked = λ e. (refl, ⊎-elim (λ h. inr (omega (arith, timely .rate t))) (λ h. inl (omega (arith, k .total))) (cases-lt (f .arrived + d .burst) (d .total)));
+      })
       (λ not-yet. record {
         awaited = λ on.
-          let ahead = a .awaited on in
-          let more : cond (f .pending) (f .waited + 1) 0 ≡ f .waited + 1 = ap (λ b. cond b (f .waited + 1) 0) on in
-          let early : f .waited + 1 < d .latency = grind (arith, tells) in
-          let same : t + (d .latency - cond (f .pending) (f .waited + 1) 0) ≡ t + (d .latency - 1 - f .waited) = omega arith in
-          (ahead .0, omega arith, subst (λ n. d .need n ≤ f .arrived) (sym same) (ahead .1));
-        unasked = λ off. (k .idle off .0, a .unasked off) })
+            let ahead = a .awaited on in
+            let more : cond (f .pending) (f .waited + 1) 0 ≡ f .waited + 1 = ap (λ b. cond b (f .waited + 1) 0) on in
+            let early : f .waited + 1 < d .latency = grind (arith, tells) in
+            let same : t + (d .latency - cond (f .pending) (f .waited + 1) 0) ≡ t + (d .latency - 1 - f .waited) = omega arith in
+            (ahead .0, omega arith, subst (λ n. d .need n ≤ f .arrived) (sym same) (ahead .1));
+        unasked = λ off. (k .idle off .0, a .unasked off);
+      })
 
   -- so the dot that is used in this tick has arrived
   arrived-in-time : (t : ℕ) (f : Progress) → Midway d t f → d .need (suc t) ≤ f .arrived
   arrived-in-time t f m = ⊎-elim
       (λ on. let ahead = m .awaited on in omega (arith, need-mono d sound (suc t) (t + (d .latency - f .waited)) (omega arith)))
       (λ off. let same = m .unasked off .0 in ⊎-elim
-        (λ all. omega (arith, sound .within (suc t)))
-        (λ soon. omega (arith, need-mono d sound (suc t) (t + d .latency) (omega (arith, sound .late))))
-        (m .unasked off .1))
+      (λ all. omega (arith, sound .within (suc t)))
+      (λ soon. omega (arith, need-mono d sound (suc t) (t + d .latency) (omega (arith, sound .late))))
+      (m .unasked off .1))
       (cases-bool (f .pending))
 
   -- and what is asked for now will arrive before it is used
@@ -133,27 +166,29 @@ module _ (d : Demand) (sound : Sound d) (timely : Timely d) where
   unfolding after-ask asks asked next-request after-take
   ahead-ask t f m = cond-both (asks d t (after-take d t f)) (asked d (after-take d t f)) (after-take d t f) (Ahead d (suc t))
       (λ yes.
-        let off : f .pending ≡ false = grind (arith, tells) in
-        let left : f .requested < d .total = grind (arith, tells) in
-        let idle = m .unasked off in
-        let soon : d .need (t + d .latency) ≤ f .requested = ⊎-elim (λ all. absurd (omega arith)) (λ h. h) (idle .1) in
-        let same : suc t + (d .latency - 1 - 0) ≡ t + d .latency = omega (arith, sound .late) in
-        record {
-          awaited = λ e. (ap (λ n. min (n + d .burst) (d .total)) (idle .0), subst (λ n. d .need n ≤ f .arrived) (sym same) (omega arith));
-          unasked = λ e. absurd (both-ways _ e refl) })
+      let off : f .pending ≡ false = grind (arith, tells) in
+      let left : f .requested < d .total = grind (arith, tells) in
+      let idle = m .unasked off in
+      let soon : d .need (t + d .latency) ≤ f .requested = ⊎-elim (λ all. absurd (omega arith)) (λ h. h) (idle .1) in
+      let same : suc t + (d .latency - 1 - 0) ≡ t + d .latency = omega (arith, sound .late) in
+      record {
+        awaited = λ e. (ap (λ n. min (n + d .burst) (d .total)) (idle .0), subst (λ n. d .need n ≤ f .arrived) (sym same) (omega arith));
+        unasked = λ e. absurd (both-ways _ e refl);
+      })
       (λ no-request. record {
         awaited = λ on.
-          let ahead = m .awaited on in
-          let same : suc t + (d .latency - 1 - f .waited) ≡ t + (d .latency - f .waited) = omega arith in
-          (ahead .0, subst (λ n. d .need n ≤ f .arrived) (sym same) (ahead .2));
+            let ahead = m .awaited on in
+            let same : suc t + (d .latency - 1 - f .waited) ≡ t + (d .latency - f .waited) = omega arith in
+            (ahead .0, subst (λ n. d .need n ≤ f .arrived) (sym same) (ahead .2));
         unasked = λ off. ⊎-elim inl
-          (λ soon. ⊎-elim
+            (λ soon. ⊎-elim
             (λ left.
-              let full : d .free (suc t) + d .capacity < min (f .requested + d .burst) (d .total) = grind (arith, tells) in
-              inr (omega (arith, timely .room (suc t))))
+            let full : d .free (suc t) + d .capacity < min (f .requested + d .burst) (d .total) = grind (arith, tells) in
+            inr (omega (arith, timely .room (suc t))))
             (λ none. ⊎-elim (λ below. inr (omega (arith, sound .within (suc t + d .latency)))) (λ all. inl (omega arith)) (cases-lt (d .total) (f .requested)))
             (cases-lt (f .requested) (d .total)))
-          (m .unasked off .1) })
+            (m .unasked off .1);
+      })
 
   ahead : (w : ℕ → Bool) (t : ℕ) → Ahead d t (after d w t)
   unfolding after begun after-tick

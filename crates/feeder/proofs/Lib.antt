@@ -1,2 +1,4 @@
 pub mod Laws
+pub mod Moves
+pub mod Plans
 pub mod Worst

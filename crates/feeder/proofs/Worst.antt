@@ -54,7 +54,11 @@ bursts-waiting d f k n m = record { arrived = m .arrived; requested = m .request
 bursts-asked : (d : Demand) (f : Progress) (n : ℕ) → Bursts d f n n → Bursts d (asked d f) n (suc n)
 unfolding asked next-request
 bursts-asked d f n m = record {
-    arrived = m .arrived; requested = ap (λ r. min (r + d .burst) (d .total)) (m .requested) ∙ level-more d n; on = λ e. refl; off = λ e. absurd (both-ways _ e refl) }
+  arrived = m .arrived;
+  requested = ap (λ r. min (r + d .burst) (d .total)) (m .requested) ∙ level-more d n;
+  on = λ e. refl;
+  off = λ e. absurd (both-ways _ e refl);
+}
 
 -- an idle feeder's bursts have all arrived
 idle : (d : Demand) (f : Progress) (k n : ℕ) → Bursts d f k n → k ≡ n → f .pending ≡ false
@@ -78,9 +82,9 @@ overtaken d w a b l due not-yet =
     let is-due = overdue d a due in
     ⊎-elim (λ fewer. omega arith)
     (λ same. ⊎-elim
-      (λ on. absurd (omega (arith, l .waits (omega (arith, l .requests)) (is-due .0) on, early d w b not-yet on)))
-      (λ off. omega (arith, l .other .off off, l .requests))
-      (cases-bool (b .pending)))
+    (λ on. absurd (omega (arith, l .waits (omega (arith, l .requests)) (is-due .0) on, early d w b not-yet on)))
+    (λ off. omega (arith, l .other .off off, l .requests))
+    (cases-bool (b .pending)))
     (cases-lt (l .na) (l .nb))
 
 lag-answer : (d : Demand) (w : Bool) (a b : Progress) → Lag d a b → Lag d (after-answer d false a) (after-answer d w b)
@@ -89,29 +93,66 @@ lag-answer d w a b l =
     let more-b = bound d b _ _ (l .other) in
     cond-both (answers d false a) (answered a) (waiting a) (λ x. Lag d x (after-answer d w b))
     (λ yes. cond-both (answers d w b) (answered b) (waiting b) (λ y. Lag d (answered a) y)
-      (λ too. record {
-        ka = l .na; na = l .na; kb = l .nb; nb = l .nb; mine = bursts-answered d a _ _ (l .mine); other = bursts-answered d b _ _ (l .other);
-        requests = l .requests; arrivals = l .requests; waits = λ e on. absurd (both-ways _ refl on) })
-      (λ not-yet. record {
-        ka = l .na; na = l .na; kb = l .kb; nb = l .nb; mine = bursts-answered d a _ _ (l .mine); other = bursts-waiting d b _ _ (l .other);
-        requests = l .requests; arrivals = overtaken d w a b l yes not-yet; waits = λ e on. absurd (both-ways _ refl on) }))
+    (λ too. record {
+      ka = l .na;
+      na = l .na;
+      kb = l .nb;
+      nb = l .nb;
+      mine = bursts-answered d a _ _ (l .mine);
+      other = bursts-answered d b _ _ (l .other);
+      requests = l .requests;
+      arrivals = l .requests;
+      waits = λ e on. absurd (both-ways _ refl on);
+    })
+    (λ not-yet. record {
+      ka = l .na;
+      na = l .na;
+      kb = l .kb;
+      nb = l .nb;
+      mine = bursts-answered d a _ _ (l .mine);
+      other = bursts-waiting d b _ _ (l .other);
+      requests = l .requests;
+      arrivals = overtaken d w a b l yes not-yet;
+      waits = λ e on. absurd (both-ways _ refl on);
+    }))
     (λ late. cond-both (answers d w b) (answered b) (waiting b) (λ y. Lag d (waiting a) y)
-      (λ too. record {
-        ka = l .ka; na = l .na; kb = l .nb; nb = l .nb; mine = bursts-waiting d a _ _ (l .mine); other = bursts-answered d b _ _ (l .other);
-        requests = l .requests; arrivals = omega arith; waits = λ e on-a on. absurd (both-ways _ refl on) })
-      (λ not-yet. record {
-        ka = l .ka; na = l .na; kb = l .kb; nb = l .nb; mine = bursts-waiting d a _ _ (l .mine); other = bursts-waiting d b _ _ (l .other);
-        requests = l .requests; arrivals = l .arrivals;
-        waits = λ e on-a on-b. let before = l .waits e on-a on-b in rw (on-a, on-b) (omega arith) }))
+    (λ too. record {
+      ka = l .ka;
+      na = l .na;
+      kb = l .nb;
+      nb = l .nb;
+      mine = bursts-waiting d a _ _ (l .mine);
+      other = bursts-answered d b _ _ (l .other);
+      requests = l .requests;
+      arrivals = omega arith;
+      waits = λ e on-a on. absurd (both-ways _ refl on);
+    })
+    (λ not-yet. record {
+      ka = l .ka;
+      na = l .na;
+      kb = l .kb;
+      nb = l .nb;
+      mine = bursts-waiting d a _ _ (l .mine);
+      other = bursts-waiting d b _ _ (l .other);
+      requests = l .requests;
+      arrivals = l .arrivals;
+      waits = λ e on-a on-b. let before = l .waits e on-a on-b in rw (on-a, on-b) (omega arith);
+    }))
 
 -- to take a dot changes nothing that counts here
 lag-take : (d : Demand) (t : ℕ) (a b : Progress) → Lag d a b → Lag d (after-take d t a) (after-take d t b)
 unfolding after-take
 lag-take d t a b l = record {
-    ka = l .ka; na = l .na; kb = l .kb; nb = l .nb;
-    mine = record { arrived = l .mine .arrived; requested = l .mine .requested; on = l .mine .on; off = l .mine .off };
-    other = record { arrived = l .other .arrived; requested = l .other .requested; on = l .other .on; off = l .other .off };
-    requests = l .requests; arrivals = l .arrivals; waits = l .waits }
+  ka = l .ka;
+  na = l .na;
+  kb = l .kb;
+  nb = l .nb;
+  mine = record { arrived = l .mine .arrived; requested = l .mine .requested; on = l .mine .on; off = l .mine .off };
+  other = record { arrived = l .other .arrived; requested = l .other .requested; on = l .other .on; off = l .other .off };
+  requests = l .requests;
+  arrivals = l .arrivals;
+  waits = l .waits;
+}
 
 -- a feeder that asks is idle, and so would be any other that had requested as much
 asks-idle : (d : Demand) (t : ℕ) (f : Progress) → asks d t f ≡ true → f .pending ≡ false
@@ -126,11 +167,11 @@ asks-too d t a b same off h = grind (arith, tells)
 asked-before : (d : Demand) (t : ℕ) (a b : Progress) (l : Lag d a b) → asks d t a ≡ true → asks d t b ≡ false → l .na < l .nb
 asked-before d t a b l first not-now = ⊎-elim (λ fewer. fewer)
     (λ same.
-      let level-a = l .mine .off (asks-idle d t a first) in
-      let level-b = bound d b _ _ (l .other) in
-      let off = idle d b _ _ (l .other) (omega (arith, l .arrivals, l .requests)) in
-      let equal : l .na ≡ l .nb = omega (arith, l .requests) in
-      absurd (both-ways _ not-now (asks-too d t a b (l .mine .requested ∙ ap (level d) equal ∙ sym (l .other .requested)) off first)))
+    let level-a = l .mine .off (asks-idle d t a first) in
+    let level-b = bound d b _ _ (l .other) in
+    let off = idle d b _ _ (l .other) (omega (arith, l .arrivals, l .requests)) in
+    let equal : l .na ≡ l .nb = omega (arith, l .requests) in
+    absurd (both-ways _ not-now (asks-too d t a b (l .mine .requested ∙ ap (level d) equal ∙ sym (l .other .requested)) off first)))
     (cases-lt (l .na) (l .nb))
 
 bursts-idle : (d : Demand) (f : Progress) (k n : ℕ) → Bursts d f k n → f .pending ≡ false → Bursts d f n n
@@ -143,19 +184,43 @@ lag-ask d t a b l =
     let more-b = bound d b _ _ (l .other) in
     cond-both (asks d t a) (asked d a) a (λ x. Lag d x (after-ask d t b))
     (λ yes.
-      let mine = bursts-asked d a _ (bursts-idle d a _ _ (l .mine) (asks-idle d t a yes)) in
-      cond-both (asks d t b) (asked d b) b (λ y. Lag d (asked d a) y)
-      (λ too. record {
-        ka = l .na; na = suc (l .na); kb = l .nb; nb = suc (l .nb); mine = mine; other = bursts-asked d b _ (bursts-idle d b _ _ (l .other) (asks-idle d t b too));
-        requests = omega (arith, l .requests); arrivals = l .requests; waits = λ e on-a on-b. omega arith })
-      (λ not-now. record {
-        ka = l .na; na = suc (l .na); kb = l .kb; nb = l .nb; mine = mine; other = l .other;
-        requests = asked-before d t a b l yes not-now; arrivals = omega (arith, asked-before d t a b l yes not-now); waits = λ e on-a on-b. omega arith }))
+    let mine = bursts-asked d a _ (bursts-idle d a _ _ (l .mine) (asks-idle d t a yes)) in
+    cond-both (asks d t b) (asked d b) b (λ y. Lag d (asked d a) y)
+    (λ too. record {
+      ka = l .na;
+      na = suc (l .na);
+      kb = l .nb;
+      nb = suc (l .nb);
+      mine = mine;
+      other = bursts-asked d b _ (bursts-idle d b _ _ (l .other) (asks-idle d t b too));
+      requests = omega (arith, l .requests);
+      arrivals = l .requests;
+      waits = λ e on-a on-b. omega arith;
+    })
+    (λ not-now. record {
+      ka = l .na;
+      na = suc (l .na);
+      kb = l .kb;
+      nb = l .nb;
+      mine = mine;
+      other = l .other;
+      requests = asked-before d t a b l yes not-now;
+      arrivals = omega (arith, asked-before d t a b l yes not-now);
+      waits = λ e on-a on-b. omega arith;
+    }))
     (λ not-now. cond-both (asks d t b) (asked d b) b (λ y. Lag d a y)
-      (λ too. record {
-        ka = l .ka; na = l .na; kb = l .nb; nb = suc (l .nb); mine = l .mine; other = bursts-asked d b _ (bursts-idle d b _ _ (l .other) (asks-idle d t b too));
-        requests = omega (arith, l .requests); arrivals = omega (arith, l .requests); waits = λ e on-a on-b. absurd (omega (arith, l .requests)) })
-      (λ neither. l))
+    (λ too. record {
+      ka = l .ka;
+      na = l .na;
+      kb = l .nb;
+      nb = suc (l .nb);
+      mine = l .mine;
+      other = bursts-asked d b _ (bursts-idle d b _ _ (l .other) (asks-idle d t b too));
+      requests = omega (arith, l .requests);
+      arrivals = omega (arith, l .requests);
+      waits = λ e on-a on-b. absurd (omega (arith, l .requests));
+    })
+    (λ neither. l))
 
 lag : (d : Demand) (w : ℕ → Bool) (t : ℕ) → Lag d (after d latest t) (after d w t)
 unfolding after begun after-tick level

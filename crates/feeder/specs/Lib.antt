@@ -2,3 +2,4 @@ pub mod Law
 pub mod Model
 pub mod Panel
 pub mod Refusal
+pub mod Step

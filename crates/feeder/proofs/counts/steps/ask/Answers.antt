@@ -1,0 +1,11 @@
+use mathlib.Core.Logic.{_⊎_, inl, inr, ⊎-elim}
+use mathlib.Core.Path.{_≡_}
+use native.Mathlib.Omega.{arith}
+use Rattle.feeder.proofs.Moves.{asked-none, asked-some}
+use Rattle.feeder.proofs.counts.steps.ask.Needs as need
+
+pub returns-then-f : need.returns-then-f
+returns-then-f c = asked-none _ _ _ (c .args .f) (⊎-elim inl (⊎-elim (λ h. inr (inl (h .1))) (λ h. inr (inr (omega arith)))) (c .then-f .either))
+
+pub returns : need.returns
+returns c = asked-some _ _ _ _ (c .args .f) (c .if-f .left) (c .if-f-total .left) (c .if-request-room .left) (c .min-request .ensures)
