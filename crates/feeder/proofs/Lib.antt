@@ -1,4 +1,6 @@
+pub mod Frames
 pub mod Laws
 pub mod Moves
 pub mod Plans
+pub mod Reach
 pub mod Worst

@@ -1,3 +1,4 @@
+pub mod Feed
 pub mod Law
 pub mod Model
 pub mod Panel

@@ -75,3 +75,8 @@ requests d willing t f = after-tick d willing t f .requested - f .requested
 unfoldable pub outcome : Demand → Bool → ℕ → Progress → Outcome
 outcome d willing t f =
     cond (uses d t) (cond (misses d t (after-answer d willing f)) (Missing (requests d willing t f)) (Dot (requests d willing t f))) (Dark (requests d willing t f))
+
+abbrev pub is-missing : Outcome → Bool
+is-missing (Dot n) = false
+is-missing (Dark n) = false
+is-missing (Missing n) = true

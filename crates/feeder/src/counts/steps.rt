@@ -8,7 +8,7 @@ ghost use Rattle.timing.specs.Frame.{frame-dots, taken};
 ghost use Rattle.feeder.specs.Model.{begun, answers, answered, waiting, after-tick, outcome};
 ghost use Rattle.feeder.specs.Panel.{demand-of, accepted, noted, asked-for};
 ghost use Rattle.feeder.specs.declared.outcomes.Outcome.the-variants.{Dot, Dark, Missing};
-ghost use Rattle.feeder.specs.Step.{tick-in, Allows, Refused, Steps};
+ghost use Rattle.feeder.specs.Step.{plan-in, tick-in, Allows, Refused, Steps};
 use super::super::outcomes::Outcome;
 use super::super::refusals::StepRefusal;
 use super::super::states::Progress;
@@ -117,6 +117,37 @@ impl Counts {
                 underrun: false,
             },
         }
+    }
+
+    pub fn plan(&self) -> Plan
+        ensures { λ r. ⌜ r ≡ now (self .entry) .scan .plan ⌝ }
+    {
+        self.scan.plan()
+    }
+
+    // The tick that comes next.
+    pub fn tick(&self) -> u32
+        ensures { λ r. ⌜ r ≡ tick-in (now (self .entry)) ⌝ }
+    {
+        self.scan.tick()
+    }
+
+    pub fn progress(&self) -> Progress
+        ensures { λ r. ⌜ r ≡ now (self .entry) .progress ⌝ }
+    {
+        let Counts { progress, .. } = *self;
+        progress
+    }
+
+    // Whether the memory answers in that tick: where it is willing, and where it must.
+    pub fn answers(&self, willing: bool) -> bool
+        ensures { λ r. ⌜ r ≡ answers (demand-of (plan-in (now (self .entry)))) willing (now (self .entry) .progress) ⌝ }
+    {
+        let f = self.progress;
+        if !f.pending || willing {
+            return f.pending;
+        }
+        f.waited + 1 >= self.scan.plan().numbers().latency
     }
 
     // Why a tick is refused, if it is, in which the memory brings its answer or doesn't.
