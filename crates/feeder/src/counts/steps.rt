@@ -49,14 +49,16 @@ fn ask(f: Progress, burst: u32, total: u32, room: u32) -> Progress
     requires { ⌜ f .requested + burst < 4294967296 ⌝ }
     ensures { λ r. ⌜ r ≡ asked-for burst total room f ⌝ }
 {
-    let request = (f.requested + burst).min(total);
-    if f.pending || f.requested >= total || request > room {
+    let requested = (f.requested + burst).min(total);
+    if f.pending || f.requested >= total || requested > room {
         return f;
     }
+    // the tick of the request is not one of those waited
+    let waited = 0;
     Progress {
-        requested: request,
+        requested,
         pending: true,
-        waited: 0,
+        waited,
         ..f
     }
 }
@@ -178,13 +180,8 @@ impl Counts {
         }
         let mut scan = self.scan;
         scan.advance();
-        let (progress, outcome) = moves(
-            &self.scan,
-            scan.taken(),
-            self.total,
-            self.progress,
-            brought,
-        );
+        let freed = scan.taken();
+        let (progress, outcome) = moves(&self.scan, freed, self.total, self.progress, brought);
         self.scan = scan;
         self.progress = progress;
         Ok(outcome)
