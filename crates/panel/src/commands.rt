@@ -9,6 +9,9 @@ pub enum Command {
     Plan(Vec<u32>),
     When(Dot),
     At(u32),
+    RunLatest,
+    // in which ticks from 0 the memory is willing
+    RunBy(Vec<bool>),
     Help,
     // a line that asks nothing: blank, or a remark after '#'
     Nothing,
@@ -41,16 +44,35 @@ fn numbers(heap: Global, text: &str) -> Result<Option<Vec<u32>>, AllocError> {
     Ok(Some(row))
 }
 
+// Zeros and ones with one space between each two.
+fn flags(heap: Global, text: &str) -> Result<Option<Vec<bool>>, AllocError> {
+    let mut all = Vec::new(heap);
+    for word in text.split(' ') {
+        match word {
+            "0" => all.push(false)?,
+            "1" => all.push(true)?,
+            _ => return Ok(None),
+        }
+    }
+    Ok(Some(all))
+}
+
 // None where the line is no command.
 pub fn read(heap: Global, line: &str) -> Result<Option<Command>, AllocError> {
     if line.is_empty() || line.starts_with('#') {
         return Ok(Some(Command::Nothing));
     }
-    if line == "help" {
-        return Ok(Some(Command::Help));
+    match line {
+        "help" => return Ok(Some(Command::Help)),
+        "plan" => return Ok(Some(Command::Plan(Vec::new(heap)))),
+        "run latest" => return Ok(Some(Command::RunLatest)),
+        _ => {}
     }
-    if line == "plan" {
-        return Ok(Some(Command::Plan(Vec::new(heap))));
+    if let Some(rest) = line.strip_prefix("run by ") {
+        return match flags(heap, rest)? {
+            Some(willing) => Ok(Some(Command::RunBy(willing))),
+            None => Ok(None),
+        };
     }
     let Some((word, rest)) = line.split_once(' ') else {
         return Ok(None);

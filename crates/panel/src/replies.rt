@@ -1,6 +1,8 @@
 // What is printed to each line.
 use super::commands;
 use super::commands::Command;
+use feeder::first_underrun;
+use feeder::first_underrun_latest;
 use std::alloc::AllocError;
 use std::alloc::Global;
 use std::str::from_utf8;
@@ -12,6 +14,8 @@ const HELP: &str =
     "plan W H L P R B T   keep a plan: dots in a line, lines, ticks before a line and before the picture, room, at once, latest
 when X Y             the tick in which dot X of line Y is taken
 at T                 the dot that is taken in tick T
+run latest           a picture, by a memory that always takes as long as it may
+run by 1 0 0 1       a picture, by a memory that is willing in the ticks marked 1, and answers when it must
 help                 this list
 ";
 
@@ -103,6 +107,13 @@ fn at(heap: Global, plan: &Plan, tick: u32) -> Result<String, AllocError> {
     }
 }
 
+fn first_missing(heap: Global, tick: Option<u32>) -> Result<String, AllocError> {
+    match tick {
+        Some(tick) => format!(heap, "missing in tick {tick}\n"),
+        None => String::from_str(heap, "none missing\n"),
+    }
+}
+
 fn answer(heap: Global, kept: &mut Option<Plan>, command: Command) -> Result<String, AllocError> {
     match (command, *kept) {
         (Command::Plan(row), _) => keep(heap, kept, row.as_slice()),
@@ -110,6 +121,11 @@ fn answer(heap: Global, kept: &mut Option<Plan>, command: Command) -> Result<Str
         (Command::Nothing, _) => Ok(String::new(heap)),
         (Command::When(dot), Some(plan)) => when(heap, &plan, dot),
         (Command::At(tick), Some(plan)) => at(heap, &plan, tick),
+        (Command::RunLatest, Some(plan)) => first_missing(heap, first_underrun_latest(plan)),
+        (Command::RunBy(willing), Some(plan)) => first_missing(
+            heap,
+            first_underrun(plan, willing.as_slice()),
+        ),
         (_, None) => String::from_str(heap, "no plan yet\n"),
     }
 }
