@@ -6,6 +6,7 @@ ghost use Rattle.feeder.specs.Panel.{accepted};
 use super::states::Progress;
 use timing::Scan;
 
+mod resumes;
 mod steps;
 
 #[derive(Clone, Copy)]

@@ -1,6 +1,7 @@
 // The feeder: what it requests of the memory, tick by tick, and that by a plan in time no dot is ever missing.
 mod counts;
 mod feeders;
+mod lent;
 mod outcomes;
 mod refusals;
 mod runs;
@@ -8,6 +9,9 @@ mod states;
 
 pub use counts::Counts;
 pub use feeders::Feeder;
+pub use lent::StateRefusal;
+pub use lent::StateRefusalDebug;
+pub use lent::StateRefusalPartialEq;
 pub use outcomes::Outcome;
 pub use outcomes::OutcomeDebug;
 pub use outcomes::OutcomePartialEq;

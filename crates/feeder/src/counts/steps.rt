@@ -50,7 +50,8 @@ fn ask(f: Progress, burst: u32, total: u32, room: u32) -> Progress
     ensures { λ r. ⌜ r ≡ asked-for burst total room f ⌝ }
 {
     let requested = (f.requested + burst).min(total);
-    if f.pending || f.requested >= total || requested > room {
+    let full = requested > room;
+    if f.pending || f.requested >= total || full {
         return f;
     }
     // the tick of the request is not one of those waited
