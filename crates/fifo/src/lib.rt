@@ -1,0 +1,2 @@
+// The FIFO as a ring.
+mod rings;
