@@ -2,7 +2,7 @@
 use mathlib.Core.Bool.{Bool, true, false, _&&_, not, cond}
 use mathlib.Core.List.{List, [], _∷_, _++_}
 use mathlib.Core.Logic.{⊎-elim}
-use mathlib.Core.Path.{_≡_, refl, sym, ap, _∙_}
+use mathlib.Core.Path.{_≡_, refl, sym, ap, ap₂, _∙_, subst}
 use Prim.Native.Nat.{ℕ, _+_, _≤_, _<_}
 use native.Mathlib.Omega.{arith}
 use lib.Dec.{leb, ltb, eqb}
@@ -13,8 +13,9 @@ use Rattle.std.specs.declared.option.Option.{Option}
 use Rattle.std.specs.declared.option.Option.the-variants.{Some, None}
 use Rattle.timing.specs.Frame.{frame-ticks, frame-dots, taken}
 use Rattle.timing.specs.declared.numbers.Numbers.{Numbers}
-use Rattle.feeder.specs.Lent.{tick-at, progress-at, first-wrong, length-wrongs, mark-wrongs, count-wrongs, state-refusal, mark-refusal, count-refusal}
+use Rattle.feeder.specs.Lent.{tick-at, progress-at, first-wrong, length-wrongs, mark-wrongs, count-wrongs, state-refusal, mark-refusal, count-refusal, state-of}
 use Rattle.feeder.specs.Panel.{accepted}
+use Rattle.feeder.specs.declared.counts.Counts.{Counts}
 use Rattle.feeder.specs.declared.lent.StateRefusal.{StateRefusal}
 use Rattle.feeder.specs.declared.lent.StateRefusal.the-variants.{TooShort, TooLong}
 use Rattle.feeder.specs.declared.states.Progress.{Progress}
@@ -65,3 +66,42 @@ module _ (p : Numbers) (s : List ℕ) where
 pub inside : (p : Numbers) (t m u : ℕ) → mark-refusal (leb (frame-ticks p) t) m u ≡ None → (t < frame-ticks p) × (m ≤ 1) × (u ≤ 1)
 unfolding mark-refusal
 inside p t m u h = (grind (arith, tells), grind (arith, tells), grind (arith, tells))
+
+-- written and read, the numbers of counts are theirs
+mark-back : (b : Bool) → (eqb (cond b 1 0) 1 ≡ b) × (cond b 1 0 ≤ 1)
+mark-back true = (refl, omega arith)
+mark-back false = (refl, omega arith)
+
+pub progress-back : (c : Counts) → progress-at (state-of c) ≡ c .progress
+unfolding state-of
+progress-back c = λ i. record {
+  requested = c .progress .requested;
+  arrived = c .progress .arrived;
+  pending = mark-back (c .progress .pending) .0 i;
+  waited = c .progress .waited;
+  underrun = mark-back (c .progress .underrun) .0 i;
+}
+
+pub tick-back : (c : Counts) → tick-at (state-of c) ≡ c .scan .at .tick
+unfolding state-of
+tick-back c = refl
+
+pub marks-back : (c : Counts) → (length (state-of c) ≡ 6) × (getD (state-of c) 3 0 ≤ 1) × (getD (state-of c) 5 0 ≤ 1)
+unfolding state-of
+marks-back c = (refl, mark-back (c .progress .pending) .1, mark-back (c .progress .underrun) .1)
+
+right-counts : (p : Numbers) (t : ℕ) (f : Progress) → accepted p t f ≡ true → count-refusal p t f ≡ None
+unfolding count-refusal accepted
+right-counts p t f h = grind (arith, tells)
+
+right-marks : (p : Numbers) (t m u : ℕ) → t < frame-ticks p → m ≤ 1 → u ≤ 1 → mark-refusal (leb (frame-ticks p) t) m u ≡ None
+unfolding mark-refusal
+right-marks p t m u h hm hu = grind (arith, tells)
+
+-- so before the frame's end they are accepted again
+pub accepted-back : (c : Counts) → c .scan .at .tick < frame-ticks (c .scan .plan .numbers) → state-refusal (c .scan .plan .numbers) (state-of c) ≡ None
+accepted-back c inside =
+    let p = c .scan .plan .numbers in
+    let marks = marks-back c in
+    at-counts p (state-of c) (marks .0) (right-marks p _ _ _ (subst (λ n. n < frame-ticks p) (sym (tick-back c)) inside) (marks .1) (marks .2))
+    ∙ ap₂ (count-refusal p) (tick-back c) (progress-back c) ∙ right-counts p (c .scan .at .tick) (c .progress) (c .ok)

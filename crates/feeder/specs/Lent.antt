@@ -21,6 +21,11 @@ tick-at s = getD s 0 0
 abbrev pub progress-at : List ℕ → Progress
 progress-at s = record { requested = getD s 1 0; arrived = getD s 2 0; pending = eqb (getD s 3 0) 1; waited = getD s 4 0; underrun = eqb (getD s 5 0) 1 }
 
+-- the six numbers of a feeder's counts
+unfoldable pub state-of : Counts → List ℕ
+state-of c =
+    c .scan .at .tick ∷ c .progress .requested ∷ c .progress .arrived ∷ cond (c .progress .pending) 1 0 ∷ c .progress .waited ∷ cond (c .progress .underrun) 1 0 ∷ []
+
 -- the first of the things that are wrong
 abbrev pub first-wrong : List (Bool × StateRefusal) → Option StateRefusal
 first-wrong [] = None

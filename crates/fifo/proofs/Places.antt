@@ -81,25 +81,25 @@ pub holds-filled : (m from c : ℕ) (b r : List ℕ) (picture : ℕ → ℕ) →
 holds-filled m from c b r picture full room few holds more k low high = ⊎-elim
     (λ (old : k < c). filled-other m c b r (k % m) (λ i l e. apart m k (c + i) (omega arith) (omega arith) (sym e)) ∙ holds k low old)
     (λ (new : c ≤ k).
-      let place : k ≡ c + (k - c) = omega arith in
-      let here = filled-here m c b r (k - c) full few (omega arith) in
-      ap (λ n. getD (filled m c b r) (n % m) 0) place ∙ here ∙ more (k - c) (omega arith) ∙ ap picture (sym place))
+    let place : k ≡ c + (k - c) = omega arith in
+    let here = filled-here m c b r (k - c) full few (omega arith) in
+    ap (λ n. getD (filled m c b r) (n % m) 0) place ∙ here ∙ more (k - c) (omega arith) ∙ ap picture (sym place))
     (cases-lt k c)
 
 -- a part that wraps is written in two pieces, up to the ring's end and from its start
 pub filled-wrapped : (m c a n : ℕ) (b r p q : List ℕ) → length r ≡ m → a ≡ c % m → a < m → length b ≤ m → n ≡ min (length b) (m - a) → p ≡ take n b → q ≡ drop n b →
-  putMid 0 (length b - n - 0) (putMid a (a + n - a) r p) q ≡ filled m c b r
+    putMid 0 (length b - n - 0) (putMid a (a + n - a) r p) q ≡ filled m c b r
 filled-wrapped m c a n b r p q full place inside few split ep eq =
     let np : length (take n b) ≡ n = length-take n b ∙ omega arith in
     let nq : length (drop n b) ≡ length b - n = length-drop n b in
     let first : filled m c (take n b) r ≡ putMid a (length (take n b)) r (take n b) = filled-straight m c a (take n b) r full (λ some. sym place) (omega arith) in
     let start : 0 < length (drop n b) → (c + length (take n b)) % m ≡ 0 = λ some.
-        let whole : a + n ≡ m = omega arith in
-        ap (λ k. (c + k) % m) np ∙ sym (mod-add-mod c m n) ∙ ap (λ k. (k + n) % m) (sym place) ∙ ap (λ k. k % m) whole ∙ mod-self m in
+    let whole : a + n ≡ m = omega arith in
+    ap (λ k. (c + k) % m) np ∙ sym (mod-add-mod c m n) ∙ ap (λ k. (k + n) % m) (sym place) ∙ ap (λ k. k % m) whole ∙ mod-self m in
     let rest : filled m (c + length (take n b)) (drop n b) (filled m c (take n b) r) ≡ putMid 0 (length (drop n b)) (filled m c (take n b) r) (drop n b) =
-        filled-straight m (c + length (take n b)) 0 (drop n b) (filled m c (take n b) r) (length-filled m c (take n b) r ∙ full) start (omega arith) in
+    filled-straight m (c + length (take n b)) 0 (drop n b) (filled m c (take n b) r) (length-filled m c (take n b) r ∙ full) start (omega arith) in
     let both : filled m c b r ≡ filled m (c + length (take n b)) (drop n b) (filled m c (take n b) r) =
-        ap (λ l. filled m c l r) (sym (take-append-drop n b)) ∙ filled-append m c (take n b) (drop n b) r in
+    ap (λ l. filled m c l r) (sym (take-append-drop n b)) ∙ filled-append m c (take n b) (drop n b) r in
     let lp : a + n - a ≡ length (take n b) = omega arith in
     let lq : length b - n - 0 ≡ length (drop n b) = omega arith in
     rw (ep, eq, lp, lq) (sym (both ∙ rest ∙ ap (λ l. putMid 0 (length (drop n b)) l (drop n b)) first))

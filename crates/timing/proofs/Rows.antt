@@ -1,12 +1,14 @@
--- A row whose numbers are all in range is a good plan.
-use mathlib.Core.Bool.{true}
+-- A row whose numbers are all in range is a good plan, and a good plan is such a row.
+use mathlib.Core.Bool.{true, false}
 use mathlib.Core.List.{List}
+use mathlib.Core.Logic.{⊎-elim}
 use mathlib.Core.Path.{_≡_}
-use Prim.Native.Nat.{ℕ, _<_}
+use Prim.Native.Nat.{ℕ, zero, suc, _<_}
 use native.Mathlib.Omega.{arith}
+use Rattle.std.proofs.shelf.Tests.{cases-bool}
 use Rattle.timing.specs.Good.{good}
-use Rattle.timing.specs.Row.{numbers-in, InRange}
-use Rattle.timing.proofs.Goods.{good-from}
+use Rattle.timing.specs.Row.{numbers-in, InRange, FirstWrong}
+use Rattle.timing.proofs.Goods.{good-from, good-says}
 
 pub good-row : (row : List ℕ) → ((k : ℕ) → k < 7 → InRange row k) → good (numbers-in row) ≡ true
 unfolding numbers-in
@@ -31,3 +33,18 @@ good-row row in-range =
       latency-least = at-latency .0;
       latency-most = at-latency .1;
     })
+
+pub row-good : (row : List ℕ) → good (numbers-in row) ≡ true → (k : ℕ) → k < 7 → InRange row k
+unfolding numbers-in
+row-good row ok zero h = let g = good-says _ ok in (g .width-least, g .width-most)
+row-good row ok (suc zero) h = let g = good-says _ ok in (g .height-least, g .height-most)
+row-good row ok (suc (suc zero)) h = let g = good-says _ ok in (omega arith, g .hblank-most)
+row-good row ok (suc (suc (suc zero))) h = let g = good-says _ ok in (omega arith, g .vblank-most)
+row-good row ok (suc (suc (suc (suc zero)))) h = let g = good-says _ ok in (omega arith, g .capacity-most)
+row-good row ok (suc (suc (suc (suc (suc zero))))) h = let g = good-says _ ok in (g .burst-least, g .burst-most)
+row-good row ok (suc (suc (suc (suc (suc (suc zero)))))) h = let g = good-says _ ok in (g .latency-least, g .latency-most)
+row-good row ok (suc (suc (suc (suc (suc (suc (suc k))))))) h = absurd (omega arith)
+
+-- so a row of seven is refused just where it is not good
+pub refused-wrong : (row : List ℕ) (place low high : ℕ) → FirstWrong row place low high → good (numbers-in row) ≡ false
+refused-wrong row place low high w = ⊎-elim (λ ok. absurd (w .wrong (row-good row ok place (w .inside)))) (λ none. none) (cases-bool (good (numbers-in row)))

@@ -1,8 +1,9 @@
 // Counts from six lent numbers, or why they are none.
+ghost use mathlib.Core.Bool.{cond};
 ghost use mathlib.Core.Path.{_≡_};
 ghost use Rattle.std.specs.declared.option.Option.the-variants.{Some};
 ghost use Rattle.std.specs.Results.{Cases as ByOk};
-ghost use Rattle.feeder.specs.Lent.{state-refusal, mark-refusal, count-refusal, Resumed};
+ghost use Rattle.feeder.specs.Lent.{state-refusal, mark-refusal, count-refusal, state-of, Resumed};
 use super::super::lent::StateRefusal;
 use super::super::states::Progress;
 use super::Counts;
@@ -61,7 +62,28 @@ fn count_refusal(plan: &Plan, tick: u32, f: Progress) -> Option<StateRefusal>
     None
 }
 
+fn mark(set: bool) -> u32
+    ensures { λ r. ⌜ r ≡ cond set 1 0 ⌝ }
+{
+    if set { 1 } else { 0 }
+}
+
 impl Counts {
+    // The six numbers again.
+    pub fn state(&self) -> [u32; 6]
+        ensures { λ r. ⌜ r ≡ state-of (now (self .entry)) ⌝ }
+    {
+        let f = self.progress;
+        [
+            self.scan.tick(),
+            f.requested,
+            f.arrived,
+            mark(f.pending),
+            f.waited,
+            mark(f.underrun),
+        ]
+    }
+
     // From the tick, requested, arrived, 1 if an answer is pending, for how many ticks, 1 if a dot was missing.
     pub fn resume(plan: Plan, state: &[u32]) -> Result<Counts, StateRefusal>
         ensures { λ r. ⌜ ByOk r (Resumed plan (now (state .entry))) (λ e. state-refusal (plan .numbers) (now (state .entry)) ≡ Some e) ⌝ }

@@ -135,6 +135,14 @@ impl Counts {
         self.scan.tick()
     }
 
+    // How many dots of the frame were taken before it.
+    pub fn taken(&self) -> u32
+        ensures { λ r. ⌜ r ≡ taken (plan-in (now (self .entry))) (tick-in (now (self .entry))) ⌝ }
+    {
+        let scan = self.scan;
+        scan.taken()
+    }
+
     pub fn progress(&self) -> Progress
         ensures { λ r. ⌜ r ≡ now (self .entry) .progress ⌝ }
     {
