@@ -67,6 +67,10 @@ pub inside : (p : Numbers) (t m u : ℕ) → mark-refusal (leb (frame-ticks p) t
 unfolding mark-refusal
 inside p t m u h = (grind (arith, tells), grind (arith, tells), grind (arith, tells))
 
+pub state-inside : (p : Numbers) (s : List ℕ) → state-refusal p s ≡ None → tick-at s < frame-ticks p
+unfolding state-refusal
+state-inside p s h = grind (arith, tells)
+
 -- written and read, the numbers of counts are theirs
 mark-back : (b : Bool) → (eqb (cond b 1 0) 1 ≡ b) × (cond b 1 0 ≤ 1)
 mark-back true = (refl, omega arith)

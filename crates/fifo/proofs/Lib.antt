@@ -1,1 +1,4 @@
+pub mod Checks
+pub mod Halves
 pub mod Places
+pub mod Ticks

@@ -14,6 +14,7 @@ use Rattle.timing.specs.declared.numbers.Numbers.{Numbers}
 use Rattle.feeder.specs.Lent.{tick-at, progress-at, state-refusal, state-place}
 use Rattle.feeder.specs.Model.{answers}
 use Rattle.feeder.specs.Panel.{demand-of}
+use Rattle.feeder.specs.declared.states.Progress.{Progress}
 use Rattle.fifo.specs.declared.refusals.Refusal.{Refusal}
 use Rattle.fifo.specs.declared.refusals.Refusal.the-variants.{Plan, State, Ring, Brought, Late}
 
@@ -40,20 +41,28 @@ abbrev pub StateOk : List ℕ → List ℕ → Type 0
 StateOk xs s = state-refusal (numbers-in xs) s ≡ None
 
 -- what is brought is nothing, or all that is pending
-unfoldable pub brought-ok : List ℕ → ℕ → Bool
-brought-ok s n = eqb n 0 || (progress-at s .pending && eqb n (progress-at s .requested - progress-at s .arrived))
+unfoldable pub may-bring : Progress → ℕ → Bool
+may-bring f n = eqb n 0 || (f .pending && eqb n (f .requested - f .arrived))
 
 -- nothing is brought in a tick in which it must be
-unfoldable pub late : List ℕ → List ℕ → ℕ → Bool
-late xs s n = eqb n 0 && answers (demand-of (numbers-in xs)) false (progress-at s)
+unfoldable pub must-bring : Numbers → Progress → ℕ → Bool
+must-bring p f n = eqb n 0 && answers (demand-of p) false f
 
--- why it is refused, where the ring has m places and n dots are brought: each with all that is looked at before it in order
+-- why a plan, a state and a ring of m places do not fit each other: each with all that is looked at before it in order
+abbrev pub Misfits : (plan state : List ℕ) → ℕ → Refusal → Type 0
+Misfits xs s m (Plan e) = row.Refuses xs e
+Misfits xs s m (State e) = PlanOk xs × (state-refusal (numbers-in xs) s ≡ Some e)
+Misfits xs s m (Ring k) = PlanOk xs × StateOk xs s × (m ≡ numbers-in xs .capacity → ⊥) × (k ≡ m)
+Misfits xs s m (Brought k) = ⊥
+Misfits xs s m (Late t) = ⊥
+
+-- why a tick is refused in which n dots are brought
 abbrev pub Refuses : (plan state : List ℕ) → (m n : ℕ) → Refusal → Type 0
-Refuses xs s m n (Plan e) = row.Refuses xs e
-Refuses xs s m n (State e) = PlanOk xs × (state-refusal (numbers-in xs) s ≡ Some e)
-Refuses xs s m n (Ring k) = PlanOk xs × StateOk xs s × (m ≡ numbers-in xs .capacity → ⊥) × (k ≡ m)
-Refuses xs s m n (Brought k) = PlanOk xs × StateOk xs s × (m ≡ numbers-in xs .capacity) × (brought-ok s n ≡ false) × (k ≡ n)
-Refuses xs s m n (Late t) = PlanOk xs × StateOk xs s × (m ≡ numbers-in xs .capacity) × (brought-ok s n ≡ true) × (late xs s n ≡ true) × (t ≡ tick-at s)
+Refuses xs s m n (Plan e) = Misfits xs s m (Plan e)
+Refuses xs s m n (State e) = Misfits xs s m (State e)
+Refuses xs s m n (Ring k) = Misfits xs s m (Ring k)
+Refuses xs s m n (Brought k) = PlanOk xs × StateOk xs s × (m ≡ numbers-in xs .capacity) × (may-bring (progress-at s) n ≡ false) × (k ≡ n)
+Refuses xs s m n (Late t) = PlanOk xs × StateOk xs s × (m ≡ numbers-in xs .capacity) × (may-bring (progress-at s) n ≡ true) × (must-bring (numbers-in xs) (progress-at s) n ≡ true) × (t ≡ tick-at s)
 
 -- the number that is answered, and 0 where nothing is wrong
 unfoldable pub refusal : (plan state : List ℕ) → (m n : ℕ) → ℕ
@@ -61,4 +70,4 @@ refusal xs s m n =
     cond (eqb (length xs) 7 && good (numbers-in xs))
     (cond (not (isSome (state-refusal (numbers-in xs) s)))
     (cond (eqb m (numbers-in xs .capacity))
-    (cond (brought-ok s n) (cond (late xs s n) 5 0) 4) 3) 2) 1
+    (cond (may-bring (progress-at s) n) (cond (must-bring (numbers-in xs) (progress-at s) n) 5 0) 4) 3) 2) 1
