@@ -53,7 +53,7 @@ same-out (given.Dot n) x y h = ap (λ z. Dot z n) (h n refl)
 same-out (given.Dark n) x y h = refl
 same-out (given.Missing n) x y h = refl
 
-dot-arrived : (d : Demand) (w : Bool) (t : ℕ) (f : Progress) (n : ℕ) → outcome d w t f ≡ given.Dot n → d .need t < after-answer d w f .arrived
+pub dot-arrived : (d : Demand) (w : Bool) (t : ℕ) (f : Progress) (n : ℕ) → outcome d w t f ≡ given.Dot n → d .need t < after-answer d w f .arrived
 unfolding outcome misses
 dot-arrived d w t f n h = grind (arith, tells)
 

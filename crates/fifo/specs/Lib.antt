@@ -1,3 +1,4 @@
 pub mod Entry
+pub mod Frame
 pub mod Refusal
 pub mod Ring

@@ -16,3 +16,9 @@ Holds m from to r picture = (k : ℕ) → from ≤ k → k < to → getD r (k % 
 -- what is brought are the dots of a picture from dot c on
 abbrev pub Continues : List ℕ → ℕ → (ℕ → ℕ) → Type 0
 Continues brought c picture = (i : ℕ) → i < length brought → getD brought i 0 ≡ picture (c + i)
+
+-- a ring with n dots of a picture from dot c on at their places, and every other place as it was
+pub record Loaded (picture : ℕ → ℕ) (c n : ℕ) (r r₁ : List ℕ) : Type 0 where
+  pub size : length r₁ ≡ length r
+  pub here : (i : ℕ) → i < n → getD r₁ ((c + i) % length r) 0 ≡ picture (c + i)
+  pub other : (k : ℕ) → ((i : ℕ) → i < n → (c + i) % length r ≡ k → ⊥) → getD r₁ k 0 ≡ getD r k 0

@@ -1,17 +1,25 @@
 // The FIFO as a ring: ticks over lent numbers.
 mod entries;
+mod fifos;
+mod loads;
+mod memories;
 mod outs;
 mod refusals;
 mod rings;
+mod screens;
 
 pub use entries::next_dots;
 pub use entries::tick;
+pub use memories::Memory;
 pub use outs::Out;
 pub use outs::OutDebug;
 pub use outs::OutPartialEq;
 pub use refusals::Refusal;
 pub use refusals::RefusalDebug;
 pub use refusals::RefusalPartialEq;
+pub use screens::Pixel;
+pub use screens::PixelDebug;
+pub use screens::PixelPartialEq;
 
 #[cfg(test)]
 mod tests {

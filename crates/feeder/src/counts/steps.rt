@@ -4,7 +4,7 @@ ghost use mathlib.Core.Path.{_≡_};
 ghost use Prim.Native.Nat.{suc, _+_, _<_};
 ghost use lib.Dec.{leb};
 ghost use Rattle.std.specs.Options.{Cases as BySome};
-ghost use Rattle.timing.specs.Frame.{frame-dots, taken};
+ghost use Rattle.timing.specs.Frame.{frame-dots, frame-ticks, taken};
 ghost use Rattle.feeder.specs.Model.{begun, answers, answered, waiting, after-tick, outcome};
 ghost use Rattle.feeder.specs.Panel.{demand-of, accepted, noted, asked-for};
 ghost use Rattle.feeder.specs.declared.outcomes.Outcome.the-variants.{Dot, Dark, Missing};
@@ -133,6 +133,14 @@ impl Counts {
         ensures { λ r. ⌜ r ≡ tick-in (now (self .entry)) ⌝ }
     {
         self.scan.tick()
+    }
+
+    // Whether the frame's ticks are over.
+    pub fn is_over(&self) -> bool
+        ensures { λ r. ⌜ r ≡ leb (frame-ticks (plan-in (now (self .entry)))) (tick-in (now (self .entry))) ⌝ }
+    {
+        let scan = self.scan;
+        scan.is_over()
     }
 
     // How many dots of the frame were taken before it.
