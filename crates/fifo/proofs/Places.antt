@@ -106,23 +106,24 @@ filled-wrapped m c a n b r p q full place inside few split ep eq =
 
 -- two parts that the memory has written are the dots of its picture at their places
 pub loaded : (c a n count : ℕ) (r p q : List ℕ) (picture : ℕ → ℕ) → a ≡ c % length r → a < length r → count ≤ length r → n ≡ min count (length r - a) → length p ≡ n → length q ≡ count - n →
-  ((i : ℕ) → i < length p → getD p i 0 ≡ picture (c + i)) → ((i : ℕ) → i < length q → getD q i 0 ≡ picture (c + n + i)) →
-  Loaded picture c count r (putMid 0 (count - n - 0) (putMid a (a + n - a) r p) q)
+    ((i : ℕ) → i < length p → getD p i 0 ≡ picture (c + i)) → ((i : ℕ) → i < length q → getD q i 0 ≡ picture (c + n + i)) →
+    Loaded picture c count r (putMid 0 (count - n - 0) (putMid a (a + n - a) r p) q)
 loaded c a n count r p q picture place inside few split np nq first rest =
     let m = length r in
     let b = p ++ q in
     let nb : length b ≡ count = length-append p q ∙ omega arith in
     let written : putMid 0 (length b - n - 0) (putMid a (a + n - a) r p) q ≡ filled m c b r =
-        filled-wrapped m c a n b r p q refl place inside (omega arith) (omega arith) (sym (take-at p q n np)) (sym (drop-at p q n np)) in
+    filled-wrapped m c a n b r p q refl place inside (omega arith) (omega arith) (sym (take-at p q n np)) (sym (drop-at p q n np)) in
     let same : putMid 0 (count - n - 0) (putMid a (a + n - a) r p) q ≡ filled m c b r = ap (λ k. putMid 0 (k - n - 0) (putMid a (a + n - a) r p) q) (sym nb) ∙ written in
     let each : (i : ℕ) → i < count → getD b i 0 ≡ picture (c + i) = λ i h. ⊎-elim
-        (λ (l : i < length p). getD-append-left p q 0 i l ∙ first i l)
-        (λ (l : length p ≤ i). let e : c + n + (i - length p) ≡ c + i = omega arith in getD-append-right p q (length p) i 0 refl l ∙ rest (i - length p) (omega arith) ∙ ap picture e)
-        (cases-lt i (length p)) in
+    (λ (l : i < length p). getD-append-left p q 0 i l ∙ first i l)
+    (λ (l : length p ≤ i). let e : c + n + (i - length p) ≡ c + i = omega arith in getD-append-right p q (length p) i 0 refl l ∙ rest (i - length p) (omega arith) ∙ ap picture e)
+    (cases-lt i (length p)) in
     record {
       size = ap length same ∙ length-filled m c b r;
       here = λ i h. ap (λ l. getD l ((c + i) % m) 0) same ∙ filled-here m c b r i refl (omega arith) (omega arith) ∙ each i h;
-      other = λ k h. ap (λ l. getD l k 0) same ∙ filled-other m c b r k (λ i l. h i (omega arith)) }
+      other = λ k h. ap (λ l. getD l k 0) same ∙ filled-other m c b r k (λ i l. h i (omega arith));
+    }
 
 -- a place past the ring's end, once round
 pub place-back : (m k : ℕ) → m ≤ k → k < m + m → k % m ≡ k - m

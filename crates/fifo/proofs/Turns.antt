@@ -16,7 +16,7 @@ use Rattle.timing.specs.declared.numbers.Numbers.{Numbers}
 use Rattle.timing.specs.declared.plans.Plan.{Plan}
 use Rattle.timing.proofs.Curves.{taken-when, taken-unless, taken-rises}
 use Rattle.timing.proofs.Goods.{good-says, small}
-use Rattle.feeder.specs.Feed.{Follows}
+use Rattle.feeder.specs.Feed.{Follows, Fed}
 use Rattle.feeder.specs.Model.{Demand, answers, answered, waiting, after-answer, after-tick, uses, misses, outcome, requests}
 use Rattle.feeder.specs.Panel.{demand-of, ByPlan}
 use Rattle.feeder.specs.Step.{plan-in, tick-in, Moved, Steps}
@@ -28,7 +28,7 @@ use Rattle.feeder.specs.declared.states.Progress.{Progress}
 use Rattle.feeder.proofs.Laws.{tick-arrived}
 use Rattle.feeder.proofs.Plans.{accepted-kept, by-plan}
 use Rattle.feeder.proofs.Reach.{follows}
-use Rattle.fifo.specs.Frame.{pixel-of, takes-of, Kept, Played}
+use Rattle.fifo.specs.Frame.{pixel-of, takes-of, Given, Kept, Played}
 use Rattle.fifo.specs.Ring.{Holds, Loaded}
 use Rattle.fifo.specs.declared.fifos.Fifo.{Fifo}
 use Rattle.fifo.specs.declared.screens.Pixel.{Pixel}
@@ -68,7 +68,8 @@ placed a m size =
       head = head;
       tail = tail;
       head-inside = omega (arith, mod-lt (taken (plan-in c) (tick-in c)) some);
-      tail-inside = omega (arith, mod-lt (c .progress .arrived) some) }
+      tail-inside = omega (arith, mod-lt (c .progress .arrived) some);
+    }
 
 -- an outcome takes a dot just where the panel does
 takes-given : (u m : Bool) (n : ℕ) → takes-of (cond u (cond m (given.Missing n) (given.Dot n)) (given.Dark n)) ≡ cond u 1 0
@@ -82,25 +83,25 @@ takes-outcome p w t f =
     let given-takes = takes-given (uses (demand-of p) t) (misses (demand-of p) t (after-answer (demand-of p) w f)) (requests (demand-of p) w t f) in
     let same = by-plan p .uses-is t in
     ⊎-elim
-      (λ (hit : takes p t ≡ true). taken-when p t hit ∙ ap (λ n. taken p t + n) (sym (given-takes ∙ ap (λ b. cond b 1 0) (same ∙ hit))))
-      (λ (none : takes p t ≡ false). let z = given-takes ∙ ap (λ b. cond b 1 0) (same ∙ none) in omega (arith, taken-unless p t none, z))
-      (cases-bool (takes p t))
+    (λ (hit : takes p t ≡ true). taken-when p t hit ∙ ap (λ n. taken p t + n) (sym (given-takes ∙ ap (λ b. cond b 1 0) (same ∙ hit))))
+    (λ (none : takes p t ≡ false). let z = given-takes ∙ ap (λ b. cond b 1 0) (same ∙ none) in omega (arith, taken-unless p t none, z))
+    (cases-bool (takes p t))
 
 -- what has arrived after a tick
 arrived-by : (d : Demand) (w : Bool) (t : ℕ) (f : Progress) → answers d w f ≡ w → f .arrived ≤ f .requested → after-tick d w t f .arrived ≡ f .arrived + cond w (f .requested - f .arrived) 0
 unfolding after-answer answered waiting
 arrived-by d w t f allowed order =
     tick-arrived d w t f ∙ cond-both (answers d w f) (answered f) (waiting f) (λ (x : Progress). x .arrived ≡ f .arrived + cond w (f .requested - f .arrived) 0)
-      (λ hit. let on : w ≡ true = sym allowed ∙ hit in rw on (omega arith))
-      (λ none. let off : w ≡ false = sym allowed ∙ none in rw off (omega arith))
+    (λ hit. let on : w ≡ true = sym allowed ∙ hit in rw on (omega arith))
+    (λ none. let off : w ≡ false = sym allowed ∙ none in rw off (omega arith))
 
 -- a loaded ring goes on holding the picture
 holds-loaded : (from c n : ℕ) (r r₁ : List ℕ) (picture : ℕ → ℕ) → c + n ≤ from + length r → Loaded picture c n r r₁ → Holds (length r) from c r picture → Holds (length r) from (c + n) r₁ picture
 holds-loaded from c n r r₁ picture room l holds k low high = ⊎-elim
     (λ (old : k < c). l .other (k % length r) (λ i h e. apart (length r) k (c + i) (omega arith) (omega arith) (sym e)) ∙ holds k low old)
     (λ (new : c ≤ k).
-      let place : c + (k - c) ≡ k = omega arith in
-      ap (λ n. getD r₁ (n % length r) 0) (sym place) ∙ l .here (k - c) (omega arith) ∙ ap picture place)
+    let place : c + (k - c) ≡ k = omega arith in
+    ap (λ n. getD r₁ (n % length r) 0) (sym place) ∙ l .here (k - c) (omega arith) ∙ ap picture place)
     (cases-lt k c)
 
 same-pixel : (o : Outcome) (x y : ℕ) → ((n : ℕ) → o ≡ given.Dot n → x ≡ y) → pixel-of o x ≡ pixel-of o y
@@ -149,7 +150,7 @@ module _ (a : Fifo) (c₁ : Counts) (r r₁ : List ℕ) (picture : ℕ → ℕ) 
       omega (arith, count, at-most brought (a .feeder .counts .progress .requested - a .feeder .counts .progress .arrived), place .room, place .order)
 
   pub played : (b : Fifo) (x : Pixel) (willing : Bool) → b .feeder .counts ≡ c₁ → brought ≡ answers (demand-of (plan-in (a .feeder .counts))) willing (a .feeder .counts .progress) →
-    Loaded picture (a .feeder .counts .progress .arrived) n r r₁ → x ≡ pixel-of o (getD r₁ (a .head) 0) → Played picture a r x b r₁
+      Loaded picture (a .feeder .counts .progress .arrived) n r r₁ → x ≡ pixel-of o (getD r₁ (a .head) 0) → Played picture a r x b r₁
   unfolding demand-of
   played b x willing same answer l ex =
       let c = a .feeder .counts in
@@ -162,16 +163,18 @@ module _ (a : Fifo) (c₁ : Counts) (r r₁ : List ℕ) (picture : ℕ → ℕ) 
         follows = subst (λ (k : Counts). Follows c willing o k) (sym same) (follows c c₁ willing brought (Ok o) answer moved);
         size = l .size;
         kept = λ old.
-          let full = holds-loaded (taken p t) (c .progress .arrived) n r r₁ picture arrived-room l old in
-          let hit : (k : ℕ) → o ≡ given.Dot k → getD r₁ (a .head) 0 ≡ picture (taken p t) = λ k e.
-              let got = dot-arrived (demand-of p) brought t (c .progress) k (sym (moved .outcome-is) ∙ e) in
-              let now = sym (tick-arrived (demand-of p) brought t (c .progress)) ∙ sym (ap (λ (f : Progress). f .arrived) (moved .progress)) ∙ now-arrived in
-              ap (λ j. getD r₁ j 0) (place .head) ∙ full (taken p t) (omega arith) (omega (arith, now)) in
-          ((λ k low high.
-              let from : taken p t ≤ k = omega (arith, now-taken, ap (λ (q : Counts). taken (plan-in q) (tick-in q)) same) in
-              let to : k < c .progress .arrived + n = omega (arith, now-arrived, ap (λ (q : Counts). q .progress .arrived) same) in
-              ap (λ m. getD r₁ (k % m) 0) (l .size) ∙ full k from to),
-           ex ∙ same-pixel o _ _ hit) }
+            let full = holds-loaded (taken p t) (c .progress .arrived) n r r₁ picture arrived-room l old in
+            let hit : (k : ℕ) → o ≡ given.Dot k → getD r₁ (a .head) 0 ≡ picture (taken p t) = λ k e.
+            let got = dot-arrived (demand-of p) brought t (c .progress) k (sym (moved .outcome-is) ∙ e) in
+            let now = sym (tick-arrived (demand-of p) brought t (c .progress)) ∙ sym (ap (λ (f : Progress). f .arrived) (moved .progress)) ∙ now-arrived in
+            ap (λ j. getD r₁ j 0) (place .head) ∙ full (taken p t) (omega arith) (omega (arith, now)) in (
+              (λ k low high.
+                  let from : taken p t ≤ k = omega (arith, now-taken, ap (λ (q : Counts). taken (plan-in q) (tick-in q)) same) in
+                  let to : k < c .progress .arrived + n = omega (arith, now-arrived, ap (λ (q : Counts). q .progress .arrived) same) in
+                  ap (λ m. getD r₁ (k % m) 0) (l .size) ∙ full k from to),
+              ex ∙ same-pixel o _ _ hit,
+            );
+      }
 
 -- an answer that the memory may give is never refused before the frame's end
 pub never-stuck : (c c₁ : Counts) (willing brought : Bool) (e : StepRefusal) → brought ≡ answers (demand-of (plan-in c)) willing (c .progress) → Steps c brought (Err e) c₁ → tick-in c < frame-ticks (plan-in c) → ⊥
@@ -195,3 +198,8 @@ pub takes-few : (o : Outcome) → takes-of o ≤ 1
 takes-few (given.Dot n) = omega arith
 takes-few (given.Dark n) = omega arith
 takes-few (given.Missing n) = omega arith
+
+pub given-pixel : (o : Outcome) (x : ℕ) → Fed o → Given (pixel-of o x)
+given-pixel (given.Dot n) x h = tt
+given-pixel (given.Dark n) x h = tt
+given-pixel (given.Missing n) x h = h

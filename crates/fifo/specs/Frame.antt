@@ -27,6 +27,12 @@ pixel-of (given.Dot n) dot = Dot dot
 pixel-of (given.Dark n) dot = Dark
 pixel-of (given.Missing n) dot = Missing
 
+-- no dot is missing
+abbrev pub Given : Pixel → Type 0
+Given (Dot x) = Unit {0}
+Given Dark = Unit {0}
+Given Missing = ⊥
+
 -- how many dots it takes
 abbrev pub takes-of : Outcome → ℕ
 takes-of (given.Dot n) = 1

@@ -1,4 +1,5 @@
 // The FIFO as a ring: ticks over lent numbers.
+mod ends;
 mod entries;
 mod fifos;
 mod loads;
@@ -8,8 +9,15 @@ mod refusals;
 mod rings;
 mod screens;
 
+pub use ends::AtOnce;
+pub use ends::AtOnceMemory;
+pub use ends::ByList;
+pub use ends::ByListMemory;
+pub use ends::Latest;
+pub use ends::LatestMemory;
 pub use entries::next_dots;
 pub use entries::tick;
+pub use fifos::Fifo;
 pub use memories::Memory;
 pub use outs::Out;
 pub use outs::OutDebug;
@@ -25,6 +33,8 @@ pub use screens::PixelPartialEq;
 mod tests {
     use super::*;
     use std::test::*;
+    use timing::Plan;
+    use timing::PlanRefusalDebug;
 
     const PLAN: [u32; 7] = [8, 2, 0, 6, 6, 3, 2];
 
@@ -110,5 +120,73 @@ mod tests {
         )?;
         check_eq(Refusal::Late { tick: 9 }.place(), 9)?;
         check(state == [0, 3, 0, 1, 0, 0])
+    }
+
+    // A frame of the plan above, whose dots are numbered from 10.
+    fn play<M: Memory>(plan: Plan, ring: &mut [u16], memory: &mut M) -> Result<(), Fail> {
+        let mut fifo = Fifo::start(plan);
+        let mut next = 10u16;
+        for tick in 0..plan.frame_ticks() {
+            let pixel = fifo.step(ring, memory)?;
+            if plan.takes(tick) {
+                check_eq(pixel, Pixel::Dot(next))?;
+                next = next.wrapping_add(1);
+            } else {
+                check_eq(pixel, Pixel::Dark)?;
+            }
+        }
+        check_eq(next, 26)?;
+        check(!fifo.feeder().counts().progress().pending)?;
+        check(fifo.step(ring, memory).is_err())
+    }
+
+    #[test]
+    fn a_frame_from_the_latest_memory() -> Result<(), Fail> {
+        let dots = [
+            10,
+            11,
+            12,
+            13,
+            14,
+            15,
+            16,
+            17,
+            18,
+            19,
+            20,
+            21,
+            22,
+            23,
+            24,
+            25,
+        ];
+        play(Plan::new(&PLAN)?, &mut [0; 6], &mut Latest { dots: &dots })
+    }
+
+    #[test]
+    fn a_willing_memory_saves_it() -> Result<(), Fail> {
+        let plan = Plan::new(&[4, 1, 0, 1, 4, 4, 3])?;
+        let dots = [1, 2, 3, 4];
+        let mut ring = [0; 4];
+        let mut late = Fifo::start(plan);
+        let mut early = Fifo::start(plan);
+        check_eq(
+            late.step(&mut ring, &mut Latest { dots: &dots })?,
+            Pixel::Dark,
+        )?;
+        check_eq(
+            late.step(&mut ring, &mut Latest { dots: &dots })?,
+            Pixel::Missing,
+        )?;
+        check_eq(
+            early.step(&mut ring, &mut AtOnce { dots: &dots })?,
+            Pixel::Dark,
+        )?;
+        let willing = [false, true];
+        let mut memory = ByList {
+            dots: &dots,
+            willing: &willing,
+        };
+        check_eq(early.step(&mut ring, &mut memory)?, Pixel::Dot(1))
     }
 }

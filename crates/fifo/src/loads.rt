@@ -22,7 +22,13 @@ fn load<M: Memory>(memory: &mut M, ring: &mut [u16], first: u32, at: usize, coun
 }
 
 // The memory's answer, if it gives one in this tick: how many dots it brings.
-pub fn bring<M: Memory>(memory: &mut M, ring: &mut [u16], f: Progress, brought: bool, at: usize) -> usize
+pub fn bring<M: Memory>(
+    memory: &mut M,
+    ring: &mut [u16],
+    f: Progress,
+    brought: bool,
+    at: usize,
+) -> usize
     requires order { ⌜ f .arrived ≤ f .requested ⌝ }
     requires few { ⌜ f .requested ≤ f .arrived + length (now ring) ⌝ }
     requires place { ⌜ at ≡ f .arrived % length (now ring) ⌝ }

@@ -1,9 +1,12 @@
 // A FIFO from a frame's start, tick by tick, with no division.
+ghost use mathlib.Core.Bool.{true};
 ghost use mathlib.Core.Path.{_≡_};
 ghost use Prim.Native.Nat.{_+_, _%_, _≤_, _<_};
+ghost use Rattle.std.specs.Vec.{made};
+ghost use Rattle.feeder.specs.Panel.{in-time};
 ghost use Rattle.feeder.specs.Step.{plan-in, tick-in};
 ghost use Rattle.feeder.specs.Model.{begun};
-ghost use Rattle.fifo.specs.Frame.{pixel-of, takes-of, Plays};
+ghost use Rattle.fifo.specs.Frame.{pixel-of, takes-of, Given, Plays};
 use super::super::loads::bring;
 use super::super::memories::Memory;
 use super::super::refusals::Refusal;
@@ -22,7 +25,11 @@ fn onward(at: usize, by: usize, capacity: usize) -> usize
     ensures { λ r. ⌜ r ≡ (at + by) % capacity ⌝ }
 {
     let place = at + by;
-    if place >= capacity { place - capacity } else { place }
+    if place >= capacity {
+        place - capacity
+    } else {
+        place
+    }
 }
 
 // How many dots an outcome takes.
@@ -52,12 +59,24 @@ impl Fifo {
         ensures tick { λ r. ⌜ tick-in (r .feeder .counts) ≡ 0 ⌝ }
         ensures progress { λ r. ⌜ r .feeder .counts .progress ≡ begun ⌝ }
     {
-        Fifo { feeder: Feeder::start(plan), head: 0, tail: 0 }
+        Fifo {
+            feeder: Feeder::start(plan),
+            head: 0,
+            tail: 0,
+        }
+    }
+
+    pub fn feeder(&self) -> Feeder
+        ensures { λ r. ⌜ r ≡ now (self .entry) .feeder ⌝ }
+    {
+        let Fifo { feeder, .. } = *self;
+        feeder
     }
 
     // One tick, in which the memory may answer, and must in the last tick that it has. Refused, with nothing changed, by a ring of another length than the capacity and past the frame's last tick.
     pub fn step<M: Memory>(&mut self, ring: &mut [u16], memory: &mut M) -> Result<Pixel, Refusal>
         ensures same { λ _. ⌜ M·Memory .dots (now (memory .exit)) ≡ M·Memory .dots (now (memory .entry)) ⌝ }
+        ensures fed { λ r. ⌜ (in-time (plan-in (now (self .entry) .feeder .counts)) ≡ true → made r Given) ⌝ }
         ensures plays { λ r. ⌜ Plays (M·Memory .dots (now (memory .entry))) (now (self .entry)) (now (ring .entry)) r (now (self .exit)) (now (ring .exit)) ⌝ }
     {
         let counts = self.feeder.counts();

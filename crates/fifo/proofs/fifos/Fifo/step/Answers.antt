@@ -14,8 +14,9 @@ use Prim.Native.Nat.{_-_}
 use Rattle.feeder.specs.Model.{answers}
 use Rattle.feeder.specs.Panel.{demand-of}
 use Rattle.feeder.specs.Step.{Moved}
+use Rattle.fifo.specs.Frame.{Given}
 use Rattle.fifo.specs.Ring.{Loaded}
-use Rattle.fifo.proofs.Turns.{Placed, placed, Brings, brings-from, not-over, takes-few, next-head, next-tail, count-few, played, never-stuck}
+use Rattle.fifo.proofs.Turns.{Placed, placed, Brings, brings-from, not-over, takes-few, next-head, next-tail, count-few, played, never-stuck, given-pixel}
 use Rattle.fifo.proofs.fifos.Fifo.step.Given as given
 use Rattle.fifo.proofs.fifos.Fifo.step.Needs as need
 
@@ -68,9 +69,10 @@ ghost-self g c =
     let count = c .bring-count .ensures .count ∙ ap (λ (k : Progress). cond (c .answers-brought .result) (k .requested - k .arrived) 0) f in
     let moved = subst (λ (k : Counts). Moved k (c .answers-brought .result) (c .in-Ok .outcome) (c .step .last .self .counts)) refl (c .in-Ok .ensures tt .steps) in
     let head = c .onward-self-2 .ensures ∙ ap₂ (λ k m. (c .args .self .now .head + k) % m) (c .taken-by .ensures) capacity in
-    let tail = c .onward-self .ensures ∙ ap (λ m. (c .args .self .now .tail + c .bring-count .result) % m) capacity in
-    (next-head (c .args .self .now) _ (c .args .ring .now) (c .args .ring .now) (λ n. n) _ _ _ size moved count _ head,
-     (next-tail (c .args .self .now) _ (c .args .ring .now) (c .args .ring .now) (λ n. n) _ _ _ size moved count _ tail, tt))
+    let tail = c .onward-self .ensures ∙ ap (λ m. (c .args .self .now .tail + c .bring-count .result) % m) capacity in (
+      next-head (c .args .self .now) _ (c .args .ring .now) (c .args .ring .now) (λ n. n) _ _ _ size moved count _ head,
+      (next-tail (c .args .self .now) _ (c .args .ring .now) (c .args .ring .now) (λ n. n) _ _ _ size moved count _ tail, tt),
+    )
 
 pub returns : need.returns
 returns g c =
@@ -84,6 +86,8 @@ returns g c =
     let loaded = subst (λ (k : Progress). Loaded (dots (c .willing .last .self)) (k .arrived) (c .bring-count .result) (c .args .ring .now) (c .bring-count .last .ring)) f (c .bring-count .ensures .loaded) in
     record {
       same = c .bring-count .ensures .same ∙ c .willing .ensures;
+      fed = λ fast. subst Given (sym (c .pixel .ensures)) (given-pixel (c .in-Ok .outcome) _ (c .in-Ok .ensures tt .fed fast));
       plays = played (c .args .self .now) _ (c .args .ring .now) (c .bring-count .last .ring) (dots (c .args .memory .now)) _ _ _ size moved count _ (c .pixel .result) (c .willing .result) refl answer
-        (subst (λ (d : ℕ → ℕ). Loaded d (c .args .self .now .feeder .counts .progress .arrived) (c .bring-count .result) (c .args .ring .now) (c .bring-count .last .ring)) (c .willing .ensures) loaded)
-        (c .pixel .ensures) }
+          (subst (λ (d : ℕ → ℕ). Loaded d (c .args .self .now .feeder .counts .progress .arrived) (c .bring-count .result) (c .args .ring .now) (c .bring-count .last .ring)) (c .willing .ensures) loaded)
+          (c .pixel .ensures);
+    }
