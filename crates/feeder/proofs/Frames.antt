@@ -1,20 +1,17 @@
 -- A frame run to its end follows the model from its start.
-use mathlib.Core.Bool.{Bool, true, false, _&&_, _||_, cond}
-use mathlib.Core.Logic.{⊎-elim}
-use mathlib.Core.Path.{_≡_, refl, sym, ap, ap₂, _∙_, subst}
-use Prim.Native.Nat.{ℕ, suc, _+_, _<_, _≤_}
-use native.Mathlib.Omega.{arith}
+use mathlib.Core.Bool.{Bool, true, false, _&&_, cond}
+use mathlib.Core.Path.{_≡_, refl, sym, ap, _∙_, subst}
+use Prim.Native.Nat.{ℕ, suc, _<_}
 use lib.Dec.{leb}
-use Rattle.std.proofs.shelf.Tests.{cond-true, cond-false, cases-bool, both-ways, or-from, or-right}
+use Rattle.std.proofs.shelf.Tests.{both-ways, or-from, or-right}
 use Rattle.std.specs.declared.option.Option.{Option}
 use Rattle.std.specs.declared.option.Option.the-variants.{Some, None}
-use Rattle.std.specs.Options.{Cases as BySome}
 use Rattle.timing.specs.Frame.{frame-ticks}
 use Rattle.timing.specs.Good.{good}
 use Rattle.timing.specs.declared.numbers.Numbers.{Numbers}
 use Rattle.timing.specs.declared.plans.Plan.{Plan}
-use Rattle.feeder.specs.Feed.{Over, Follows, Ran, FirstUnderrun, Worst, Soonest}
-use Rattle.feeder.specs.Model.{Demand, begun, uses, misses, after-answer, after-tick, after, outcome, requests, latest, is-missing}
+use Rattle.feeder.specs.Feed.{Follows, Ran, FirstUnderrun, Worst, Soonest}
+use Rattle.feeder.specs.Model.{Demand, begun, uses, misses, after-answer, after, outcome, requests, latest, is-missing}
 use Rattle.feeder.specs.Panel.{demand-of, in-time}
 use Rattle.feeder.specs.Step.{plan-in, tick-in}
 use Rattle.feeder.specs.declared.counts.Counts.{Counts}

@@ -1,11 +1,10 @@
 -- The feeding law: by a sound demand the FIFO is never too full; by a timely one no dot is ever missing.
-use mathlib.Core.Bool.{Bool, true, false, _&&_, _||_, not, cond}
+use mathlib.Core.Bool.{Bool, true, false, _||_, cond}
 use mathlib.Core.Logic.{_⊎_, inl, inr, ⊎-elim}
 use mathlib.Core.Path.{_≡_, refl, sym, ap, _∙_, subst}
 use Prim.Native.Nat.{ℕ, zero, suc, _+_, _-_, _≤_, _<_, min}
 use native.Mathlib.Nat.{add-zero, add-suc, zero-add}
 use native.Mathlib.Omega.{arith}
-use lib.Dec.{leb, ltb}
 use Rattle.std.proofs.shelf.Tests.{cond-both, cases-bool, cases-lt, both-ways, or-from, or-parts}
 use Rattle.std.proofs.shelf.Ways.{tells}
 use Rattle.feeder.specs.Law.{Sound, Timely}

@@ -1,17 +1,14 @@
 -- Six numbers with nothing wrong are those of a feeder.
-use mathlib.Core.Bool.{Bool, true, false, _&&_, not, cond}
+use mathlib.Core.Bool.{Bool, true, false, cond}
 use mathlib.Core.List.{List, [], _∷_, _++_}
-use mathlib.Core.Logic.{⊎-elim}
-use mathlib.Core.Path.{_≡_, refl, sym, ap, ap₂, _∙_, subst}
-use Prim.Native.Nat.{ℕ, _+_, _≤_, _<_}
+use mathlib.Core.Path.{_≡_, refl, sym, ap₂, _∙_, subst}
+use Prim.Native.Nat.{ℕ, _≤_, _<_}
 use native.Mathlib.Omega.{arith}
-use lib.Dec.{leb, ltb, eqb}
+use lib.Dec.{leb, eqb}
 use lib.ListN.{length, getD}
-use Rattle.std.proofs.shelf.Tests.{both-ways}
 use Rattle.std.proofs.shelf.Ways.{tells}
-use Rattle.std.specs.declared.option.Option.{Option}
 use Rattle.std.specs.declared.option.Option.the-variants.{Some, None}
-use Rattle.timing.specs.Frame.{frame-ticks, frame-dots, taken}
+use Rattle.timing.specs.Frame.{frame-ticks}
 use Rattle.timing.specs.declared.numbers.Numbers.{Numbers}
 use Rattle.feeder.specs.Lent.{tick-at, progress-at, first-wrong, length-wrongs, mark-wrongs, count-wrongs, state-refusal, mark-refusal, count-refusal, state-of}
 use Rattle.feeder.specs.Panel.{accepted}

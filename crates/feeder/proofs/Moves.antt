@@ -9,7 +9,7 @@ use Rattle.std.proofs.shelf.Tests.{cond-both, cond-true, cond-false}
 use Rattle.std.proofs.shelf.Ways.{tells}
 use Rattle.timing.specs.Frame.{frame-dots, takes, taken}
 use Rattle.timing.specs.declared.numbers.Numbers.{Numbers}
-use Rattle.feeder.specs.Model.{answers, answered, waiting, after-answer, uses, misses, after-take, after-ask, after-tick, requests, outcome}
+use Rattle.feeder.specs.Model.{answers, answered, waiting, after-answer, misses, after-take, after-ask, after-tick, requests, outcome}
 use Rattle.feeder.specs.Panel.{demand-of, noted, asked-for}
 use Rattle.feeder.specs.declared.outcomes.Outcome.{Outcome}
 use Rattle.feeder.specs.declared.outcomes.Outcome.the-variants.{Dot, Dark, Missing}

@@ -1,20 +1,19 @@
 -- A good plan's demand is sound, one in time is timely, and its moves read over the plan.
-use mathlib.Core.Bool.{Bool, true, false, _&&_, _||_, not, cond}
+use mathlib.Core.Bool.{Bool, true, false, _&&_}
 use mathlib.Core.Logic.{⊎-elim}
-use mathlib.Core.Path.{_≡_, refl, sym, ap, _∙_, subst}
-use Prim.Native.Nat.{ℕ, suc, _+_, _≤_, _<_, min}
-use native.Mathlib.Numerals.{add-one}
+use mathlib.Core.Path.{_≡_, refl, sym, ap, _∙_}
+use Prim.Native.Nat.{ℕ, suc, _+_, _≤_, _<_}
 use native.Mathlib.Omega.{arith}
-use lib.Dec.{leb, ltb, eqb}
+use lib.Dec.{leb}
 use Rattle.std.proofs.shelf.Tests.{cases-bool, lt-ltb, le-ltb}
 use Rattle.std.proofs.shelf.Ways.{tells}
-use Rattle.timing.specs.Frame.{frame-dots, frame-ticks, takes, taken}
+use Rattle.timing.specs.Frame.{takes, taken}
 use Rattle.timing.specs.Good.{good}
 use Rattle.timing.specs.declared.numbers.Numbers.{Numbers}
 use Rattle.timing.proofs.Curves.{curve, taken-step, taken-when, taken-unless}
 use Rattle.timing.proofs.Goods.{good-says}
 use Rattle.feeder.specs.Law.{Sound, Timely}
-use Rattle.feeder.specs.Model.{Demand, uses, misses, answers, answered, waiting, after-answer, after-take, next-request, asks, asked, after-ask, after-tick}
+use Rattle.feeder.specs.Model.{uses, misses, answers, after-answer, after-take, next-request, asks, asked, after-ask, after-tick}
 use Rattle.feeder.specs.Panel.{demand-of, in-time, accepted, noted, asked-for, ByPlan}
 use Rattle.feeder.specs.declared.states.Progress.{Progress}
 use Rattle.feeder.proofs.Laws.{Kept, kept-tick}

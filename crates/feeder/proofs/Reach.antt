@@ -1,13 +1,13 @@
 -- What is reached from a frame's start stays so, tick by tick, and what holds of every way of answering holds of it.
-use mathlib.Core.Bool.{Bool, true, false, _&&_, _||_, not, cond, Bool-set}
+use mathlib.Core.Bool.{Bool, true, false, cond, Bool-set}
 use mathlib.Core.Logic.{∥∥₁-elim, ∥∥₁-map, ⊎-elim}
 use mathlib.Core.Path.{_≡_, refl, sym, ap, ap₂, _∙_, subst, subst₃}
 use Prim.Native.Nat.{ℕ, zero, suc, _+_, _≤_, _<_}
 use native.Mathlib.Nat.{ℕ-set}
 use native.Mathlib.Omega.{arith}
-use lib.Dec.{leb, ltb}
-use Rattle.std.proofs.shelf.Tests.{cond-both, cond-true, cond-false, lt-ltb, le-ltb, cases-bool, cases-lt, or-from, or-parts, both-ways}
-use Rattle.timing.specs.Frame.{frame-dots, frame-ticks, taken}
+use lib.Dec.{ltb}
+use Rattle.std.proofs.shelf.Tests.{cond-both, cond-true, cond-false, lt-ltb, le-ltb, cases-bool, or-from, or-parts, both-ways}
+use Rattle.timing.specs.Frame.{frame-dots, taken}
 use Rattle.timing.specs.Good.{good}
 use Rattle.timing.specs.declared.numbers.Numbers.{Numbers}
 use Rattle.timing.specs.declared.plans.Plan.{Plan}
@@ -27,7 +27,7 @@ use Rattle.feeder.specs.declared.refusals.StepRefusal.the-variants.{FrameOver,
 use Rattle.feeder.specs.Model.{Demand, begun, answered, waiting, after-take, after-ask, requests, uses, outcome, answers, after-answer, after-tick, after, misses, latest}
 use Rattle.feeder.specs.Panel.{demand-of, in-time, Reached}
 use Rattle.feeder.specs.declared.states.Progress.{Progress}
-use Rattle.feeder.proofs.Laws.{tick-underrun, never-missing, never-late, all-arrive}
+use Rattle.feeder.proofs.Laws.{tick-underrun, never-missing, all-arrive}
 use Rattle.feeder.proofs.Plans.{sound, timely, accepted-kept}
 use Rattle.feeder.proofs.Worst.{latest-misses}
 

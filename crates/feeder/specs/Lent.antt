@@ -1,5 +1,5 @@
 -- Six lent numbers: the tick, requested, arrived, 1 if an answer is pending, for how many ticks, 1 if a dot was missing. Assumes nothing: these are definitions.
-use mathlib.Core.Bool.{Bool, true, false, _&&_, not, cond}
+use mathlib.Core.Bool.{Bool, _&&_, not, cond}
 use mathlib.Core.List.{List, [], _∷_, _++_}
 use mathlib.Core.Path.{_≡_}
 use Prim.Native.Nat.{ℕ, _+_}

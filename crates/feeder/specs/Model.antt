@@ -1,7 +1,6 @@
 -- The feeder over any demand: a tick's three moves, and a frame. Assumes nothing: these are definitions.
 use mathlib.Core.Bool.{Bool, true, false, _&&_, _||_, not, cond}
-use mathlib.Core.Path.{_≡_}
-use Prim.Native.Nat.{ℕ, zero, suc, _+_, _-_, _≤_, _<_, min}
+use Prim.Native.Nat.{ℕ, zero, suc, _+_, _-_, min}
 use lib.Dec.{leb, ltb}
 use Rattle.feeder.specs.declared.outcomes.Outcome.{Outcome}
 use Rattle.feeder.specs.declared.outcomes.Outcome.the-variants.{Dot, Dark, Missing}

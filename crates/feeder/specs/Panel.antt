@@ -1,11 +1,11 @@
 -- The plain panel, which gives a place back as it takes the dot. Assumes nothing: these are definitions.
-use mathlib.Core.Bool.{Bool, true, false, _&&_, _||_, not, cond}
+use mathlib.Core.Bool.{Bool, true, _&&_, _||_, not, cond}
 use mathlib.Core.Path.{_≡_}
-use Prim.Native.Nat.{ℕ, suc, _+_, _≤_, _<_, min}
+use Prim.Native.Nat.{ℕ, suc, _+_, min}
 use lib.Dec.{leb, ltb, eqb}
-use Rattle.timing.specs.Frame.{frame-ticks, frame-dots, takes, taken}
+use Rattle.timing.specs.Frame.{frame-dots, takes, taken}
 use Rattle.timing.specs.declared.numbers.Numbers.{Numbers}
-use Rattle.feeder.specs.Model.{Demand, after, after-answer, after-take, after-ask, after-tick, uses, answered, waiting}
+use Rattle.feeder.specs.Model.{Demand, after, after-answer, after-take, after-ask, uses, answered, waiting}
 use Rattle.feeder.specs.declared.states.Progress.{Progress}
 
 unfoldable pub demand-of : Numbers → Demand

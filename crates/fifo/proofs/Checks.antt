@@ -1,13 +1,12 @@
 -- What the checks of lent numbers found, in terms of the counts that they became.
-use mathlib.Core.Bool.{Bool, true, false, _&&_, _||_, not, cond}
+use mathlib.Core.Bool.{true, false, _&&_}
 use mathlib.Core.List.{List}
-use mathlib.Core.Logic.{⊎-elim}
 use mathlib.Core.Path.{_≡_, refl, sym, ap, ap₂, _∙_, subst, subst₃}
-use Prim.Native.Nat.{ℕ, zero, suc, _+_, _-_, _≤_, _<_}
+use Prim.Native.Nat.{ℕ, _+_, _≤_, _<_}
 use native.Mathlib.Omega.{arith}
 use lib.Dec.{eqb}
-use lib.ListN.{length, getD}
-use Rattle.std.proofs.shelf.Tests.{cases-bool, cond-true, cond-false}
+use lib.ListN.{length}
+use Rattle.std.proofs.shelf.Tests.{cond-false}
 use Rattle.std.proofs.shelf.Ways.{tells}
 use Rattle.std.specs.declared.option.Option.{Option}
 use Rattle.std.specs.declared.option.Option.the-variants.{Some, None}
@@ -19,19 +18,17 @@ use Rattle.timing.specs.declared.numbers.Numbers.{Numbers}
 use Rattle.timing.specs.Row as row
 use Rattle.timing.specs.declared.refusals.PlanRefusal.{PlanRefusal}
 use Rattle.timing.specs.declared.refusals.PlanRefusal.the-variants.{TooShort, TooLong, OutOfRange}
-use Rattle.timing.proofs.Goods.{good-says}
 use Rattle.timing.proofs.Rows.{refused-wrong}
 use Rattle.feeder.specs.Lent.{tick-at, progress-at, state-refusal}
 use Rattle.feeder.specs.Model.{answers}
 use Rattle.feeder.specs.Panel.{demand-of}
-use Rattle.feeder.specs.Step.{plan-in, tick-in, Allows}
+use Rattle.feeder.specs.Step.{plan-in, tick-in}
 use Rattle.feeder.specs.declared.counts.Counts.{Counts}
 use Rattle.feeder.specs.declared.lent.StateRefusal.{StateRefusal}
 use Rattle.feeder.specs.declared.states.Progress.{Progress}
 use Rattle.feeder.proofs.Lents.{state-inside}
-use Rattle.feeder.proofs.Laws.{Kept}
 use Rattle.feeder.proofs.Plans.{accepted-kept}
-use Rattle.fifo.specs.Entry.{Opened, Ready, Going, Fits, Ticked, TickSays, brings}
+use Rattle.fifo.specs.Entry.{Opened, Ready, Going, Ticked, TickSays, brings}
 use Rattle.fifo.specs.Refusal.{PlanOk, StateOk, may-bring, must-bring, Misfits, Refuses, refusal, refusal-number}
 use Rattle.fifo.specs.declared.outs.Out.{Out}
 use Rattle.fifo.specs.declared.outs.Out.the-variants.{Refused}

@@ -5,7 +5,7 @@ use mathlib.Core.Path.{_≡_, refl, sym, ap, ap₂, _∙_, subst}
 use Prim.Native.Nat.{ℕ, _+_, _-_, _%_, _≤_, _<_, min}
 use native.Mathlib.Nat.{mod-lt, mod-self, mod-add-mod, mod-eq-of-lt}
 use native.Mathlib.Omega.{arith}
-use lib.ListN.{length, getD, take, drop}
+use lib.ListN.{length, getD, drop}
 use Rattle.std.proofs.shelf.Lists.{length-take, length-drop, length-append, getD-take, getD-drop, getD-append-left, getD-append-right}
 use Rattle.std.proofs.shelf.Tests.{cases-lt}
 use Rattle.timing.specs.Frame.{taken}
@@ -19,7 +19,6 @@ use Rattle.feeder.specs.declared.counts.Counts.{Counts}
 use Rattle.feeder.specs.declared.states.Progress.{Progress}
 use Rattle.feeder.proofs.Plans.{accepted-kept}
 use Rattle.fifo.specs.Entry.{next-part, TwoParts, Opened}
-use Rattle.fifo.specs.Ring.{Holds}
 
 -- a place that does not wrap
 place-on : (m k i : ℕ) → k % m + i < m → (k + i) % m ≡ k % m + i

@@ -1,10 +1,9 @@
 -- The places of a ring: which are written, and which stay.
 use mathlib.Core.List.{List, [], _∷_, _++_}
 use mathlib.Core.Logic.{_≢_, ⊎-elim}
-use mathlib.Core.Path.{_≡_, refl, sym, ap, _∙_, subst}
-use Prim.Native.Nat.{ℕ, zero, suc, _+_, _*_, _-_, _%_, _/_, _≤_, _<_, min}
-use native.Mathlib.Nat.{add-zero, add-suc, add-assoc, div-add-mod', mod-lt, suc-mul, mod-add-mod, mod-eq-of-lt, mod-eq-sub-mod, mod-self}
-use native.Mathlib.Numerals.{add-one}
+use mathlib.Core.Path.{_≡_, refl, sym, ap, _∙_}
+use Prim.Native.Nat.{ℕ, zero, suc, _+_, _-_, _%_, _/_, _≤_, _<_, min}
+use native.Mathlib.Nat.{add-zero, div-add-mod', mod-lt, suc-mul, mod-add-mod, mod-eq-of-lt, mod-eq-sub-mod, mod-self}
 use native.Mathlib.Omega.{arith}
 use lib.ListN.{length, getD, set, take, drop}
 use Rattle.std.proofs.shelf.Bits.{mul-le}

@@ -1,27 +1,25 @@
 -- A tick of counts, a ring and what is brought is the one that is promised.
-use mathlib.Core.Bool.{Bool, true, false, _&&_, _||_, not, cond}
+use mathlib.Core.Bool.{Bool}
 use mathlib.Core.List.{List}
 use mathlib.Core.Logic.{⊎-elim}
 use mathlib.Core.Path.{_≡_, refl, sym, ap, ap₂, _∙_, subst, subst₂}
-use Prim.Native.Nat.{ℕ, zero, suc, _+_, _-_, _%_, _≤_, _<_}
+use Prim.Native.Nat.{ℕ, _+_, _%_, _≤_, _<_}
 use native.Mathlib.Numerals.{add-one}
 use native.Mathlib.Omega.{arith}
-use lib.Dec.{eqb, leb, ltb}
 use lib.ListN.{length, getD}
 use Rattle.std.proofs.shelf.Tests.{cond-both, cases-lt}
 use Rattle.std.proofs.shelf.Ways.{tells}
 use Rattle.std.specs.declared.option.Option.the-variants.{None}
 use Rattle.std.specs.declared.result.Result.the-variants.{Ok}
 use Rattle.timing.specs.Frame.{frame-ticks, taken}
-use Rattle.timing.specs.Good.{good}
 use Rattle.timing.specs.declared.numbers.Numbers.{Numbers}
 use Rattle.timing.specs.declared.plans.Plan.{Plan}
 use Rattle.timing.proofs.Curves.{taken-rises}
 use Rattle.timing.proofs.Goods.{good-says}
 use Rattle.feeder.specs.Feed.{Fed}
 use Rattle.feeder.specs.Lent.{tick-at, progress-at, state-refusal, state-of}
-use Rattle.feeder.specs.Model.{Demand, answers, answered, waiting, after-answer, after-tick, uses, misses, outcome, requests}
-use Rattle.feeder.specs.Panel.{demand-of, in-time, Reached}
+use Rattle.feeder.specs.Model.{Demand, answers, answered, waiting, after-answer, misses, outcome}
+use Rattle.feeder.specs.Panel.{demand-of, Reached}
 use Rattle.feeder.specs.Step.{plan-in, tick-in, Moved, Refused as StepRefuses}
 use Rattle.feeder.specs.declared.refusals.StepRefusal.{StepRefusal}
 use Rattle.feeder.specs.declared.refusals.StepRefusal.the-variants.{FrameOver, NotPending, Late}
@@ -29,7 +27,7 @@ use Rattle.feeder.specs.declared.counts.Counts.{Counts}
 use Rattle.feeder.specs.declared.outcomes.Outcome.{Outcome}
 use Rattle.feeder.specs.declared.outcomes.Outcome.the-variants as given
 use Rattle.feeder.specs.declared.states.Progress.{Progress}
-use Rattle.feeder.proofs.Laws.{Kept, tick-arrived}
+use Rattle.feeder.proofs.Laws.{tick-arrived}
 use Rattle.feeder.proofs.Lents.{progress-back, tick-back, marks-back, accepted-back}
 use Rattle.feeder.proofs.Plans.{accepted-kept}
 use Rattle.feeder.proofs.Reach.{reached-tick, steps-fed}

@@ -1,5 +1,5 @@
 -- A tick of the typed FIFO: its places go on with the feeder, and its ring goes on holding the memory's picture.
-use mathlib.Core.Bool.{Bool, true, false, _&&_, cond}
+use mathlib.Core.Bool.{Bool, true, false, cond}
 use mathlib.Core.List.{List}
 use mathlib.Core.Logic.{⊎-elim}
 use mathlib.Core.Path.{_≡_, refl, sym, ap, ap₂, _∙_, subst}
@@ -9,16 +9,15 @@ use native.Mathlib.Omega.{arith}
 use lib.Dec.{leb}
 use lib.ListN.{length, getD}
 use Rattle.std.proofs.shelf.Tests.{cond-both, cases-lt, cases-bool, leb-false}
-use Rattle.std.proofs.shelf.Ways.{tells}
 use Rattle.std.specs.declared.result.Result.the-variants.{Ok, Err}
 use Rattle.timing.specs.Frame.{takes, taken, frame-ticks}
 use Rattle.timing.specs.declared.numbers.Numbers.{Numbers}
 use Rattle.timing.specs.declared.plans.Plan.{Plan}
-use Rattle.timing.proofs.Curves.{taken-when, taken-unless, taken-rises}
+use Rattle.timing.proofs.Curves.{taken-when, taken-unless}
 use Rattle.timing.proofs.Goods.{good-says, small}
 use Rattle.feeder.specs.Feed.{Follows, Fed}
 use Rattle.feeder.specs.Model.{Demand, answers, answered, waiting, after-answer, after-tick, uses, misses, outcome, requests}
-use Rattle.feeder.specs.Panel.{demand-of, ByPlan}
+use Rattle.feeder.specs.Panel.{demand-of}
 use Rattle.feeder.specs.Step.{plan-in, tick-in, Moved, Steps}
 use Rattle.feeder.specs.declared.counts.Counts.{Counts}
 use Rattle.feeder.specs.declared.outcomes.Outcome.{Outcome}
@@ -28,7 +27,7 @@ use Rattle.feeder.specs.declared.states.Progress.{Progress}
 use Rattle.feeder.proofs.Laws.{tick-arrived}
 use Rattle.feeder.proofs.Plans.{accepted-kept, by-plan}
 use Rattle.feeder.proofs.Reach.{follows}
-use Rattle.fifo.specs.Frame.{pixel-of, takes-of, Given, Kept, Played}
+use Rattle.fifo.specs.Frame.{pixel-of, takes-of, Given, Played}
 use Rattle.fifo.specs.Ring.{Holds, Loaded}
 use Rattle.fifo.specs.declared.fifos.Fifo.{Fifo}
 use Rattle.fifo.specs.declared.screens.Pixel.{Pixel}

@@ -12,7 +12,7 @@ use Rattle.timing.specs.declared.numbers.Numbers.{Numbers}
 use Rattle.feeder.specs.Lent.{tick-at, progress-at, state-refusal}
 use Rattle.feeder.specs.Model.{after-tick, outcome}
 use Rattle.feeder.specs.Panel.{demand-of, in-time, Reached}
-use Rattle.feeder.specs.Step.{plan-in, tick-in, Allows}
+use Rattle.feeder.specs.Step.{plan-in, Allows}
 use Rattle.feeder.specs.declared.counts.Counts.{Counts}
 use Rattle.feeder.specs.declared.outcomes.Outcome.{Outcome}
 use Rattle.feeder.specs.declared.outcomes.Outcome.the-variants as given

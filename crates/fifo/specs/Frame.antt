@@ -1,5 +1,5 @@
 -- A typed FIFO, tick by tick. Assumes nothing: these are definitions.
-use mathlib.Core.Bool.{Bool, true, false}
+use mathlib.Core.Bool.{Bool}
 use mathlib.Core.List.{List}
 use mathlib.Core.Path.{_≡_}
 use Prim.Native.Nat.{ℕ, _≤_}
@@ -8,9 +8,7 @@ use Rattle.std.specs.declared.result.Result.{Result}
 use Rattle.std.specs.declared.result.Result.the-variants.{Ok, Err}
 use Rattle.timing.specs.Frame.{frame-ticks, taken}
 use Rattle.feeder.specs.Feed.{Follows}
-use Rattle.feeder.specs.Panel.{in-time}
 use Rattle.feeder.specs.Step.{plan-in, tick-in}
-use Rattle.feeder.specs.declared.counts.Counts.{Counts}
 use Rattle.feeder.specs.declared.outcomes.Outcome.{Outcome}
 use Rattle.feeder.specs.declared.outcomes.Outcome.the-variants as given
 use Rattle.fifo.specs.Ring.{Holds}

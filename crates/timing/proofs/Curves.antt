@@ -1,14 +1,14 @@
 -- The count of dots taken: line by line, in closed form, and as a curve over the ticks.
-use mathlib.Core.Bool.{Bool, true, false, _&&_, cond}
-use mathlib.Core.Logic.{_⊎_, ⊎-elim}
+use mathlib.Core.Bool.{true, false, cond}
+use mathlib.Core.Logic.{⊎-elim}
 use mathlib.Core.Path.{_≡_, refl, sym, ap, _∙_, subst}
 use Prim.Native.Nat.{ℕ, zero, suc, _+_, _*_, _-_, _%_, _/_, _≤_, _<_, min}
 use native.Mathlib.Nat.{add-zero, add-suc, mod-lt, div-add-mod', suc-mul, zero-mul, mul-comm, mul-div-cancel, mul-mod-left}
 use native.Mathlib.Omega.{arith}
 use lib.Arith.{digits-lt, digits-mod}
-use lib.Dec.{leb, ltb}
+use lib.Dec.{leb}
 use Rattle.std.proofs.shelf.Bits.{div-below}
-use Rattle.std.proofs.shelf.Tests.{cases-lt, lt-leb, le-leb}
+use Rattle.std.proofs.shelf.Tests.{cases-lt}
 use Rattle.std.proofs.shelf.Ways.{tells}
 use Rattle.timing.specs.Frame.{line-ticks, frame-ticks, frame-dots, takes, taken, Curve}
 use Rattle.timing.specs.Good.{good}

@@ -1,8 +1,8 @@
 -- The next dot of a scan is taken in the tick in which it is due, and in no tick before.
-use mathlib.Core.Bool.{Bool, true, false}
+use mathlib.Core.Bool.{true, false}
 use mathlib.Core.Logic.{⊎-elim}
-use mathlib.Core.Path.{_≡_, refl, sym, ap, ap₂, _∙_}
-use Prim.Native.Nat.{ℕ, suc, _+_, _*_, _-_, _%_, _/_, _≤_, _<_}
+use mathlib.Core.Path.{_≡_, sym, ap, ap₂, _∙_}
+use Prim.Native.Nat.{ℕ, _+_, _*_, _-_, _%_, _/_, _≤_, _<_}
 use native.Mathlib.Nat.{add-mul, mul-comm, mod-lt, div-add-mod', le-of-mul-le-mul-right}
 use native.Mathlib.Numerals.{add-one}
 use native.Mathlib.Omega.{arith}
@@ -10,7 +10,7 @@ use lib.Arith.{digits-div, digits-mod}
 use lib.Dec.{eqb}
 use Rattle.std.proofs.shelf.Bits.{mul-le}
 use Rattle.std.proofs.shelf.Tests.{cases-bool, both-ways, cases-lt, eq-eqb, ne-eqb}
-use Rattle.timing.specs.Frame.{line-ticks, frame-ticks, frame-dots, tick-of, index, takes, taken, InFrame}
+use Rattle.timing.specs.Frame.{line-ticks, frame-ticks, frame-dots, tick-of, index, takes, taken}
 use Rattle.timing.specs.Good.{good}
 use Rattle.timing.specs.declared.dots.Dot.{Dot}
 use Rattle.timing.specs.Scan.{Tracks, next-dot}

@@ -1,6 +1,6 @@
 -- When the panel takes a dot, and which. Assumes nothing: these are definitions.
 use mathlib.Core.Path.{_≡_}
-use mathlib.Core.Bool.{Bool, true, false, _&&_, cond}
+use mathlib.Core.Bool.{Bool, true, _&&_, cond}
 use Prim.Native.Nat.{ℕ, zero, suc, _+_, _*_, _-_, _%_, _≤_, _<_}
 use lib.Dec.{leb, ltb}
 use Rattle.timing.specs.declared.numbers.Numbers.{Numbers}

@@ -1,6 +1,6 @@
 -- A position between two ticks, against the count of dots taken.
 use mathlib.Core.Path.{_≡_}
-use Prim.Native.Nat.{ℕ, _≤_, _<_}
+use Prim.Native.Nat.{_≤_, _<_}
 use Rattle.timing.specs.declared.dots.Dot.{Dot}
 use Rattle.timing.specs.declared.numbers.Numbers.{Numbers}
 use Rattle.timing.specs.declared.positions.Position.{Position}

@@ -1,4 +1,4 @@
-use mathlib.Core.Path.{_≡_, refl, sym, ap, _∙_, subst}
+use mathlib.Core.Path.{_≡_, refl, ap, _∙_, subst}
 use Prim.Native.Nat.{_<_, _%_}
 use native.Mathlib.Nat.{mod-lt}
 use native.Mathlib.Omega.{arith}
@@ -7,7 +7,7 @@ use Rattle.timing.proofs.Goods.{good-says}
 use mathlib.Core.Bool.{Bool, not}
 use Prim.Native.Nat.{ℕ}
 use lib.Dec.{eqb}
-use Rattle.feeder.specs.Step.{plan-in, Moved, Refused}
+use Rattle.feeder.specs.Step.{Moved, Refused}
 use Rattle.feeder.specs.declared.states.Progress.{Progress}
 use Rattle.fifo.specs.Entry.{brings, out-of}
 use Rattle.fifo.specs.Ring.{filled}

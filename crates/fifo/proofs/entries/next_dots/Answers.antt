@@ -1,7 +1,6 @@
 use borrow.Author.Needs.{needs}
-use mathlib.Core.List.{[]}
-use mathlib.Core.Path.{_≡_, refl, sym, ap, ap₂, _∙_, subst}
-use Prim.Native.Nat.{ℕ, _+_, _-_, _%_, _≤_, _<_, min}
+use mathlib.Core.Path.{_≡_, refl, ap, ap₂, _∙_}
+use Prim.Native.Nat.{_+_, _-_, _%_, _≤_, _<_, min}
 use native.Mathlib.Nat.{mod-lt}
 use native.Mathlib.Omega.{arith}
 use lib.ListN.{length, take, drop}
@@ -9,7 +8,6 @@ use Rattle.timing.specs.declared.numbers.Numbers.{Numbers}
 use Rattle.timing.proofs.Goods.{good-says}
 use Rattle.timing.specs.Frame.{taken}
 use Rattle.feeder.specs.declared.states.Progress.{Progress}
-use Rattle.feeder.specs.Step.{plan-in}
 use Rattle.fifo.specs.Entry.{next-part}
 use Rattle.timing.specs.Row.{numbers-in}
 use Rattle.feeder.specs.Lent.{tick-at, progress-at}

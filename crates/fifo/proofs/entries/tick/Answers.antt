@@ -1,4 +1,3 @@
-use lib.ListN.{length}
 use Rattle.fifo.proofs.Checks.{going, state-six, refused-number, refused-says, ready-says}
 use Rattle.fifo.proofs.entries.tick.Needs as need
 

@@ -1,7 +1,6 @@
 use mathlib.Core.Path.{_≡_, ap, _∙_}
 use native.Mathlib.Omega.{arith}
 use Rattle.std.proofs.shelf.Ways.{tells}
-use Rattle.timing.specs.declared.numbers.Numbers.{Numbers}
 use Rattle.timing.specs.declared.plans.Plan.{Plan}
 use Rattle.feeder.specs.Model.{answers}
 use Rattle.feeder.specs.Panel.{demand-of}

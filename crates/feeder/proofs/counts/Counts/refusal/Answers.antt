@@ -1,11 +1,8 @@
-use mathlib.Core.Bool.{true, false}
-use mathlib.Core.Path.{_≡_}
 use native.Mathlib.Omega.{arith}
 use Rattle.std.proofs.shelf.Ways.{tells}
-use Rattle.timing.proofs.Goods.{good-says}
 use Rattle.feeder.specs.Model.{answers}
 use Rattle.feeder.specs.Panel.{demand-of}
-use Rattle.feeder.proofs.Plans.{accepted-kept, waited-small}
+use Rattle.feeder.proofs.Plans.{waited-small}
 use Rattle.feeder.proofs.counts.Counts.refusal.Needs as need
 
 pub add-f : need.add-f

@@ -1,15 +1,12 @@
-use mathlib.Core.Path.{_≡_, refl, sym, ap, ap₂, _∙_}
+use mathlib.Core.Path.{refl, sym, ap, ap₂, _∙_}
 use Prim.Native.Nat.{_<_}
 use borrow.Author.Needs.{needs}
 use native.Mathlib.Omega.{arith}
-use lib.Dec.{leb}
 use lib.ListN.{getD}
-use Rattle.std.proofs.shelf.Ways.{tells}
-use Rattle.std.specs.declared.option.Option.the-variants.{None}
 use Rattle.timing.specs.Frame.{frame-ticks, frame-dots}
 use Rattle.timing.specs.declared.plans.Plan.{Plan}
 use Rattle.feeder.specs.Panel.{accepted}
-use Rattle.feeder.specs.Lent.{state-refusal, mark-refusal, count-refusal, tick-at, progress-at}
+use Rattle.feeder.specs.Lent.{mark-refusal, count-refusal, tick-at, progress-at}
 use Rattle.feeder.proofs.Lents.{too-long, too-short, at-marks, at-counts, inside, counts-right}
 use Rattle.feeder.proofs.counts.Counts.resume.Needs as need
 

@@ -1,5 +1,4 @@
-use mathlib.Core.Path.{refl, sym, ap, _∙_}
-use native.Mathlib.Omega.{arith}
+use mathlib.Core.Path.{refl}
 use Rattle.timing.specs.Frame.{frame-dots}
 use Rattle.feeder.specs.Model.{begun}
 use Rattle.feeder.proofs.Plans.{start-accepted}

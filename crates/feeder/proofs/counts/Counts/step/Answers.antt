@@ -1,11 +1,6 @@
-use mathlib.Core.Bool.{true}
-use mathlib.Core.Path.{_≡_, sym, ap, _∙_, subst}
-use Prim.Native.Nat.{suc, _+_, _≤_, _<_}
+use mathlib.Core.Path.{_≡_}
+use Prim.Native.Nat.{suc}
 use native.Mathlib.Omega.{arith}
-use Rattle.timing.specs.Frame.{frame-dots}
-use Rattle.timing.specs.declared.numbers.Numbers.{Numbers}
-use Rattle.timing.specs.declared.plans.Plan.{Plan}
-use Rattle.feeder.specs.Panel.{accepted}
 use Rattle.feeder.proofs.Plans.{accepted-tick}
 use Rattle.feeder.proofs.counts.Counts.step.Needs as need
 

@@ -1,4 +1,3 @@
-use mathlib.Core.Path.{refl}
 use Rattle.feeder.specs.Model.{answered, waiting}
 use Rattle.feeder.proofs.counts.steps.answer.Needs as need
 

@@ -1,5 +1,4 @@
-use mathlib.Core.Logic.{_⊎_, inl, inr, ⊎-elim}
-use mathlib.Core.Path.{_≡_}
+use mathlib.Core.Logic.{inl, inr, ⊎-elim}
 use native.Mathlib.Omega.{arith}
 use Rattle.feeder.proofs.Moves.{asked-none, asked-some}
 use Rattle.feeder.proofs.counts.steps.ask.Needs as need

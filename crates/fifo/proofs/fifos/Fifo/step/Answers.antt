@@ -1,14 +1,12 @@
-use mathlib.Core.Bool.{Bool, true, false}
 use mathlib.Core.Path.{_≡_, refl, sym, ap, ap₂, _∙_, subst}
-use Prim.Native.Nat.{ℕ, _+_, _%_, _≤_, _<_}
+use Prim.Native.Nat.{ℕ, _+_, _%_}
 use native.Mathlib.Omega.{arith}
-use lib.ListN.{length, getD}
+use lib.ListN.{length}
 use Rattle.timing.specs.declared.numbers.Numbers.{Numbers}
 use Rattle.timing.specs.declared.plans.Plan.{Plan}
-use Rattle.feeder.specs.Step.{plan-in, tick-in}
+use Rattle.feeder.specs.Step.{plan-in}
 use Rattle.feeder.specs.declared.counts.Counts.{Counts}
 use Rattle.feeder.specs.declared.states.Progress.{Progress}
-use Rattle.fifo.specs.declared.fifos.Fifo.{Fifo}
 use mathlib.Core.Bool.{cond}
 use Prim.Native.Nat.{_-_}
 use Rattle.feeder.specs.Model.{answers}
@@ -16,7 +14,7 @@ use Rattle.feeder.specs.Panel.{demand-of}
 use Rattle.feeder.specs.Step.{Moved}
 use Rattle.fifo.specs.Frame.{Given}
 use Rattle.fifo.specs.Ring.{Loaded}
-use Rattle.fifo.proofs.Turns.{Placed, placed, Brings, brings-from, not-over, takes-few, next-head, next-tail, count-few, played, never-stuck, given-pixel}
+use Rattle.fifo.proofs.Turns.{placed, Brings, brings-from, not-over, takes-few, next-head, next-tail, count-few, played, never-stuck, given-pixel}
 use Rattle.fifo.proofs.fifos.Fifo.step.Given as given
 use Rattle.fifo.proofs.fifos.Fifo.step.Needs as need
 

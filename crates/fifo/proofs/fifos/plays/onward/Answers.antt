@@ -1,6 +1,6 @@
-use mathlib.Core.Path.{_≡_, sym, _∙_}
-use Prim.Native.Nat.{_+_, _-_, _%_, _<_}
-use native.Mathlib.Nat.{mod-eq-of-lt, mod-eq-sub-mod}
+use mathlib.Core.Path.{sym}
+use Prim.Native.Nat.{_+_}
+use native.Mathlib.Nat.{mod-eq-of-lt}
 use native.Mathlib.Omega.{arith}
 use Rattle.fifo.proofs.Places.{place-back}
 use Rattle.fifo.proofs.fifos.plays.onward.Needs as need

@@ -1,5 +1,4 @@
 use mathlib.Core.Path.{sym}
-use native.Mathlib.Omega.{arith}
 use Rattle.timing.proofs.Goods.{small}
 use Rattle.timing.proofs.Whens.{takes-says, dot-in}
 use Rattle.timing.proofs.plans.Plan.dot_at.Needs as need

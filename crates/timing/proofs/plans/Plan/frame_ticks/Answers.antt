@@ -1,6 +1,4 @@
 use native.Mathlib.Omega.{arith}
-use mathlib.Core.Path.{ap}
-use Prim.Native.Nat.{_+_, _*_}
 use Rattle.timing.specs.Frame.{frame-ticks}
 use Rattle.timing.proofs.Goods.{small}
 use Rattle.timing.proofs.plans.Plan.frame_ticks.Needs as need

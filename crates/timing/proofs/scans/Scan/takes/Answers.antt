@@ -1,8 +1,6 @@
-use mathlib.Core.Path.{_≡_, sym, _∙_}
-use Prim.Native.Nat.{_<_}
+use mathlib.Core.Path.{sym, _∙_}
 use native.Mathlib.Omega.{arith}
 use Rattle.std.proofs.shelf.Tests.{le-ltb}
-use Rattle.timing.specs.Frame.{frame-ticks}
 use Rattle.timing.proofs.Curves.{takes-past}
 use Rattle.timing.proofs.Dues.{takes-due}
 use Rattle.timing.proofs.scans.Scan.takes.Needs as need
