@@ -1,4 +1,6 @@
 // Reads commands, a line each, from a file, from its arguments or from standard input, and answers each.
+#![tactic(auto)]
+
 mod charts;
 mod frames;
 mod lines;

@@ -1,4 +1,6 @@
 // The rule as an entry: whether a plan can ever leave a dot missing, and if so which of its numbers is to blame.
+#![tactic(auto)]
+
 mod capacities;
 mod eases;
 mod examples;

@@ -1,4 +1,6 @@
 // The feeder: what it requests of the memory, tick by tick, and that by a plan in time no dot is ever missing.
+#![tactic(auto)]
+
 mod counts;
 mod feeders;
 mod lent;

@@ -1,4 +1,6 @@
 // The FIFO as a ring: ticks over lent numbers.
+#![tactic(auto)]
+
 mod ends;
 mod entries;
 mod fifos;

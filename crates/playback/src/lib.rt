@@ -1,4 +1,6 @@
 // The FIFO as a ring: ticks over lent numbers, and frames with any memory and any screen.
+#![tactic(auto)]
+
 mod ends;
 mod entries;
 mod fifos;

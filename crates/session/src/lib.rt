@@ -1,4 +1,6 @@
 // What is answered to each line: a plan at work, replies as values, and how they are written.
+#![tactic(auto)]
+
 mod benches;
 mod replies;
 mod sessions;

@@ -1,4 +1,5 @@
 // Tries the rule out: every way of answering on every small plan, and the latest memory on lines that are just long enough.
+#![tactic(auto)]
 
 mod longs;
 mod smalls;

@@ -1,4 +1,6 @@
 // Every command as text: read from a line, and written as one.
+#![tactic(auto)]
+
 mod commands;
 mod keys;
 mod rows;

@@ -1,4 +1,6 @@
 // Display timing: what a plan is, when the panel takes a dot, and which one.
+#![tactic(auto)]
+
 mod dots;
 mod numbers;
 mod plans;

@@ -5,7 +5,7 @@ use Rattle.timing.proofs.plans.Plan.new.Goals as goal
 
 pub invariant_of-result : goal.invariant_of-result
 unfolding numbers_in
-invariant_of-result c = (good_row c.args.row.now (λ k h. c.loop-place.invariant k (omega arith)), tt)
+invariant_of-result c = record { ok = good_row c.args.row.now (λ k h. c.loop-place.invariant k (omega arith)) }
 
 pub returns : goal.returns
 unfolding numbers_in
