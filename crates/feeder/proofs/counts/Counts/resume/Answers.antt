@@ -27,10 +27,10 @@ unreachable-requires c =
 
 pub invariant_of-result : goal.invariant_of-result
 invariant_of-result c =
-    let scan = c.in-Some-resume.ensures in (
-      c.frame_dots.ensures.value ∙ ap (λ (q : Plan). frame_dots q.numbers) (sym scan.0),
-      (ap₂ (λ (q : Plan) t. accepted q.numbers t (progress_at c.args.state.now)) scan.0 scan.1 ∙ counts_right _ _ _ (sym c.count_refusal.ensures ∙ c.in_default-count_refusal.is), tt),
-    )
+    let scan = c.in-Some-resume.ensures in record {
+      dots = c.frame_dots.ensures.value ∙ ap (λ (q : Plan). frame_dots q.numbers) (sym scan.0);
+      ok = ap₂ (λ (q : Plan) t. accepted q.numbers t (progress_at c.args.state.now)) scan.0 scan.1 ∙ counts_right _ _ _ (sym c.count_refusal.ensures ∙ c.in_default-count_refusal.is);
+    }
 
 pub returns : goal.returns
 returns c =

@@ -8,7 +8,7 @@ use Rattle.feeder.proofs.feeders.Feeder.start.Goals as goal
 
 pub invariant_of-result : goal.invariant_of-result
 unfolding after
-invariant_of-result c = (subst (λ t. Reached (plan_in c.start.result) t c.start.result.progress) (sym c.start.ensures.tick) (reached_start (plan_in c.start.result) _ (sym c.start.ensures.progress)), tt)
+invariant_of-result c = record { reached = subst (λ t. Reached (plan_in c.start.result) t c.start.result.progress) (sym c.start.ensures.tick) (reached_start (plan_in c.start.result) _ (sym c.start.ensures.progress)) }
 
 pub returns : goal.returns
 returns c = record { plan = c.start.ensures.plan; tick = c.start.ensures.tick; progress = c.start.ensures.progress; model = by_plan _ }

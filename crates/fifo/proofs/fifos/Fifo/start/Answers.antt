@@ -13,4 +13,4 @@ invariant_of-result c =
     let n = c.start.result.counts in
     let none : taken (plan_in n) (tick_in n) ≡ 0 = ap (taken (plan_in n)) c.start.ensures.tick ∙ (curve (plan_in n)).dark 0 (omega arith) in
     let zero_at : (k : ℕ) → k ≡ 0 → ◌≡◌ {A = ℕ} 0 (k % (plan_in n).capacity) = λ k e. sym (ap (λ j. j % (plan_in n).capacity) e ∙ zero-mod (plan_in n).capacity) in
-    (zero_at _ none, (zero_at _ (ap (λ (f : Progress). f.arrived) c.start.ensures.progress), tt))
+    record { headed = zero_at _ none; tailed = zero_at _ (ap (λ (f : Progress). f.arrived) c.start.ensures.progress) }

@@ -65,10 +65,10 @@ invariant_of-self g c =
     let count = c.bring-count.ensures.count ∙ ap (λ (k : Progress). cond c.answers-brought.result (k.requested - k.arrived) 0) f in
     let moved = subst (λ (k : Counts). Moved k c.answers-brought.result c.in-Ok.outcome c.step.new.self.counts) refl c.in-Ok.ensures.steps in
     let head = c.onward-self-2.ensures ∙ ap₂ (λ k m. (c.args.self.now.head + k) % m) c.taken_by.ensures capacity in
-    let tail = c.onward-self.ensures ∙ ap (λ m. (c.args.self.now.tail + c.bring-count.result) % m) capacity in (
-      next_head c.args.self.now _ c.args.ring.now c.args.ring.now (g.M.Memory.script c.args.memory.now) _ _ _ size moved count _ head,
-      (next_tail c.args.self.now _ c.args.ring.now c.args.ring.now (g.M.Memory.script c.args.memory.now) _ _ _ size moved count _ tail, tt),
-    )
+    let tail = c.onward-self.ensures ∙ ap (λ m. (c.args.self.now.tail + c.bring-count.result) % m) capacity in record {
+      headed = next_head c.args.self.now _ c.args.ring.now c.args.ring.now (g.M.Memory.script c.args.memory.now) _ _ _ size moved count _ head;
+      tailed = next_tail c.args.self.now _ c.args.ring.now c.args.ring.now (g.M.Memory.script c.args.memory.now) _ _ _ size moved count _ tail;
+    }
 
 pub returns : goal.returns
 returns g c =

@@ -9,10 +9,13 @@ use Rattle.scope.proofs.probes.Probe.sample.Goals as goal
 
 pub invariant_of-self : goal.invariant_of-self
 invariant_of-self c =
-    let e = late_next _ _ c.in_ok-outcome.outcome c.in_ok-outcome.ensures.follows (probed c.args.self.now) in (
-      ap (λ (f : Progress). f.requested) e,
-      (ap (λ (f : Progress). f.arrived) e, (ap (λ (f : Progress). f.pending) e, (ap (λ (f : Progress). f.waited) e, (ap (λ (f : Progress). f.underrun) e, tt)))),
-    )
+    let e = late_next _ _ c.in_ok-outcome.outcome c.in_ok-outcome.ensures.follows (probed c.args.self.now) in record {
+      requested = ap (λ (f : Progress). f.requested) e;
+      arrived = ap (λ (f : Progress). f.arrived) e;
+      pending = ap (λ (f : Progress). f.pending) e;
+      waited = ap (λ (f : Progress). f.waited) e;
+      underrun = ap (λ (f : Progress). f.underrun) e;
+    }
 
 pub returns : goal.returns
 returns c =
