@@ -57,7 +57,7 @@ fn help() -> &'static str
 }
 
 fn write_verdict<W: fmt::Write>(verdict: Verdict, f: &mut fmt::Formatter<W>) -> fmt::Result
-    ensures { WritesOnOk write_str_gives f.old result (verdict_text verdict) f.new }
+    ensures { WritesOnOk W.write_str_gives f.old result (verdict_text verdict) f.new }
 {
     match verdict {
         Verdict::InTime => f.write_str("yes\n"),
@@ -83,7 +83,7 @@ fn write_verdict<W: fmt::Write>(verdict: Verdict, f: &mut fmt::Formatter<W>) -> 
 }
 
 fn write_state<W: fmt::Write>(state: &[u32; 6], f: &mut fmt::Formatter<W>) -> fmt::Result
-    ensures { WritesOnOk write_str_gives f.old result (state_text state.now) f.new }
+    ensures { WritesOnOk W.write_str_gives f.old result (state_text state.now) f.new }
 {
     let [tick, requested, arrived, pending, waited, underrun] = *state;
     write!(
@@ -93,7 +93,7 @@ fn write_state<W: fmt::Write>(state: &[u32; 6], f: &mut fmt::Formatter<W>) -> fm
 }
 
 fn write_exchange<W: fmt::Write>(exchange: Exchange, f: &mut fmt::Formatter<W>) -> fmt::Result
-    ensures { WritesOnOk write_str_gives f.old result (exchange_text exchange) f.new }
+    ensures { WritesOnOk W.write_str_gives f.old result (exchange_text exchange) f.new }
 {
     let requested = exchange.requested;
     match exchange.pixel {
@@ -105,7 +105,7 @@ fn write_exchange<W: fmt::Write>(exchange: Exchange, f: &mut fmt::Formatter<W>) 
 
 // The dots with one space between each two.
 fn write_dots<W: fmt::Write>(dots: &[u16], f: &mut fmt::Formatter<W>) -> fmt::Result
-    ensures { WritesOnOk write_str_gives f.old result (numbers_text dots.now) f.new }
+    ensures { WritesOnOk W.write_str_gives f.old result (numbers_text dots.now) f.new }
 {
     let Some((first, rest)) = dots.split_first() else {
         return f.write_str("none\n");
@@ -118,7 +118,7 @@ fn write_dots<W: fmt::Write>(dots: &[u16], f: &mut fmt::Formatter<W>) -> fmt::Re
 
 // Each dot behind a space.
 fn write_row<W: fmt::Write>(dots: &[u16], f: &mut fmt::Formatter<W>) -> fmt::Result
-    ensures { WritesOnOk write_str_gives f.old result (row_text dots.now) f.new }
+    ensures { WritesOnOk W.write_str_gives f.old result (row_text dots.now) f.new }
 {
     for dot in dots {
         let dot = *dot;
@@ -128,7 +128,7 @@ fn write_row<W: fmt::Write>(dots: &[u16], f: &mut fmt::Formatter<W>) -> fmt::Res
 }
 
 fn write_tick<W: fmt::Write>(tick: Option<u32>, f: &mut fmt::Formatter<W>) -> fmt::Result
-    ensures { WritesOnOk write_str_gives f.old result (tick_text tick) f.new }
+    ensures { WritesOnOk W.write_str_gives f.old result (tick_text tick) f.new }
 {
     match tick {
         Some(tick) => write!(f, "tick {tick}\n"),
@@ -137,7 +137,7 @@ fn write_tick<W: fmt::Write>(tick: Option<u32>, f: &mut fmt::Formatter<W>) -> fm
 }
 
 fn write_dot<W: fmt::Write>(dot: Option<Dot>, f: &mut fmt::Formatter<W>) -> fmt::Result
-    ensures { WritesOnOk write_str_gives f.old result (dot_text dot) f.new }
+    ensures { WritesOnOk W.write_str_gives f.old result (dot_text dot) f.new }
 {
     match dot {
         Some(Dot { x, y }) => write!(f, "dot {x} of line {y}\n"),
@@ -146,7 +146,7 @@ fn write_dot<W: fmt::Write>(dot: Option<Dot>, f: &mut fmt::Formatter<W>) -> fmt:
 }
 
 fn write_missing<W: fmt::Write>(tick: Option<u32>, f: &mut fmt::Formatter<W>) -> fmt::Result
-    ensures { WritesOnOk write_str_gives f.old result (missing_text tick) f.new }
+    ensures { WritesOnOk W.write_str_gives f.old result (missing_text tick) f.new }
 {
     match tick {
         Some(tick) => write!(f, "missing in tick {tick}\n"),

@@ -40,7 +40,7 @@ fn first_words(command: &Command) -> &'static str
 }
 
 fn write_numbers<W: fmt::Write>(command: &Command, f: &mut fmt::Formatter<W>) -> fmt::Result
-    ensures { WritesOnOk write_str_gives f.old result (row_text (numbers (said command.now))) f.new }
+    ensures { WritesOnOk W.write_str_gives f.old result (row_text (numbers (said command.now))) f.new }
 {
     match command {
         Command::Plan(row) => write_row(row, f),
@@ -56,7 +56,7 @@ fn write_numbers<W: fmt::Write>(command: &Command, f: &mut fmt::Formatter<W>) ->
 }
 
 fn write_row<W: fmt::Write>(row: &[u32], f: &mut fmt::Formatter<W>) -> fmt::Result
-    ensures { WritesOnOk write_str_gives f.old result (row_text row.now) f.new }
+    ensures { WritesOnOk W.write_str_gives f.old result (row_text row.now) f.new }
 {
     for n in row {
         write_number(*n, f)?;
@@ -65,7 +65,7 @@ fn write_row<W: fmt::Write>(row: &[u32], f: &mut fmt::Formatter<W>) -> fmt::Resu
 }
 
 fn write_flags<W: fmt::Write>(flags: &[bool], f: &mut fmt::Formatter<W>) -> fmt::Result
-    ensures { WritesOnOk write_str_gives f.old result (row_text (map flag flags.now)) f.new }
+    ensures { WritesOnOk W.write_str_gives f.old result (row_text (map flag flags.now)) f.new }
 {
     for willing in flags {
         write_number(u32::from(*willing), f)?;
@@ -74,7 +74,7 @@ fn write_flags<W: fmt::Write>(flags: &[bool], f: &mut fmt::Formatter<W>) -> fmt:
 }
 
 fn write_number<W: fmt::Write>(n: u32, f: &mut fmt::Formatter<W>) -> fmt::Result
-    ensures { WritesOnOk write_str_gives f.old result (32 ∷ decimal n) f.new }
+    ensures { WritesOnOk W.write_str_gives f.old result (32 ∷ decimal n) f.new }
 {
     write!(f, " {n}")
 }

@@ -3,15 +3,15 @@ use Rattle.std.proofs.lemmas.Bool.{both_ways}
 use Rattle.feeder.specs.Feed.{willing_in}
 use Rattle.sweep.proofs.Numbered.{covers}
 use Rattle.sweep.proofs.trials.try_ways.Goals as goal
-use Rattle.sweep.proofs.trials.try_ways.Goals.{then_is_some, else_is_some, then_disagrees, else_disagrees}
+use Rattle.sweep.proofs.trials.try_ways.Goals.{then-is_some, else-is_some, then-disagrees, else-disagrees}
 
 pub loop-way-preserved : goal.loop-way-preserved
 loop-way-preserved c =
     let agreed = c.disagrees.ensures (willing_in c.flags_of.result) c.first_underrun-first.ensures c.first_underrun_latest-worst.ensures.soonest in (
-      elim c.if-is_some.branch [ then_is_some w ↦ omega (arith, w.underruns-is, c.loop-way.invariant.0) | else_is_some w ↦ omega (arith, w.underruns-is, c.loop-way.invariant.0) ],
+      elim c.if-is_some.branch [ then-is_some w ↦ omega (arith, w.underruns-is, c.loop-way.invariant.0) | else-is_some w ↦ omega (arith, w.underruns-is, c.loop-way.invariant.0) ],
       elim c.if-disagrees.branch [
-        | then_disagrees w ↦ absurd (both_ways _ agreed w.if-disagrees.true)
-        | else_disagrees w ↦ w.disagreements-is ∙ c.loop-way.invariant.1
+        | then-disagrees w ↦ absurd (both_ways _ agreed w.if-disagrees.true)
+        | else-disagrees w ↦ w.disagreements-is ∙ c.loop-way.invariant.1
       ],
     )
 

@@ -16,7 +16,7 @@ returns-in-Some c =
 pub loop-key-preserved : goal.loop-key-preserved
 loop-key-preserved c =
     All-more (Unkeyed c.args.line.now) c.args.keys.now c.loop-key.key-index Plan c.loop-key-test.true c.loop-key.invariant
-    (λ tail e. strip_prefix_is c.args.line.now c.as_bytes.result.now None c.in_default.ensures.cases tail (e ∙ ap (λ (t : List ℕ). t ++ tail) (sym (c.as_bytes.ensures.value ∙ c.text.ensures))))
+    (λ tail e. strip_prefix_is Decides-eqb c.args.line.now c.as_bytes.result.now None c.in_default.ensures.cases tail (e ∙ ap (λ (t : List ℕ). t ++ tail) (sym (c.as_bytes.ensures.value ∙ c.text.ensures))))
 
 pub returns : goal.returns
 returns c = subst (All (Unkeyed c.args.line.now)) (take_all c.loop-key.key-index c.args.keys.now c.loop-key-test.false) c.loop-key.invariant
