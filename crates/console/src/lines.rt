@@ -4,7 +4,7 @@ ghost use Rattle.std.specs.Prelude.{◌≤◌};
 use super::meters::Meter;
 use playback::{Pixel, Screen};
 use std::io;
-use std::io::Write;
+use std::io::{IsTerminal, Write};
 
 // Writes the digits before the text's last byte: where they begin.
 fn digits(dot: u16, text: &mut [u8; 6]) -> usize
@@ -22,7 +22,7 @@ fn digits(dot: u16, text: &mut [u8; 6]) -> usize
 }
 
 #[derive(Drop)]
-pub struct Lines<W: Write + Drop, E: Write + Drop> {
+pub struct Lines<W: Write + Drop, E: Write + IsTerminal + Drop> {
     out: W,
     meter: Meter<E>,
     width: u32,
@@ -32,7 +32,7 @@ pub struct Lines<W: Write + Drop, E: Write + Drop> {
     failed: io::Result<()>,
 }
 
-impl<W: Write + Drop, E: Write + Drop> Lines<W, E> {
+impl<W: Write + Drop, E: Write + IsTerminal + Drop> Lines<W, E> {
     pub fn new(out: W, meter: Meter<E>, width: u32) -> Lines<W, E> {
         Lines {
             out,
@@ -75,7 +75,7 @@ impl<W: Write + Drop, E: Write + Drop> Lines<W, E> {
     }
 }
 
-impl<W: Write + Drop, E: Write + Drop> Screen for Lines<W, E> {
+impl<W: Write + Drop, E: Write + IsTerminal + Drop> Screen for Lines<W, E> {
     // what a program writes no clause can say
     ghost accepts = { λ _ _ _. Unit {0} };
 

@@ -11,7 +11,7 @@ use anyhow::anyhow;
 use session::{Answer, Reply, Session};
 use std::env;
 use std::fs::File;
-use std::io::{BufRead, BufReader, Read};
+use std::io::{BufRead, BufReader, IsTerminal, Read};
 
 // A frame, where a plan is there to be played.
 fn perform(rt: &HostRuntime, session: &Session, answer: &Answer) -> anyhow::Result<()> {
@@ -70,16 +70,12 @@ fn converse_argument(rt: &HostRuntime, text: &str) -> anyhow::Result<u64> {
     Ok(turned)
 }
 
-// Whether a standard stream is a terminal.
-fn is_terminal(fd: i32) -> bool {
-    libc::isatty(fd) == 1
-}
-
 fn run(rt: &HostRuntime) -> anyhow::Result<u64> {
     let mut args = env::args(rt)?;
     let _name = args.next();
     let Some(first) = args.next() else {
-        return converse(rt, rt.stdin(), is_terminal(0) && is_terminal(1));
+        let prompts = rt.stdin().is_terminal() && rt.stdout().is_terminal();
+        return converse(rt, rt.stdin(), prompts);
     };
     if first.as_str() == "-c" {
         return match args.next() {

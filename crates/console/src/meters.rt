@@ -1,12 +1,12 @@
 // How far a long frame has come, on standard error where that is a terminal.
-use std::io::Write;
+use std::io::{IsTerminal, Write};
 use timing::Plan;
 
 // Frames of fewer ticks are over too soon to tell.
 const LONG: u32 = 1 << 22;
 
 #[derive(Drop)]
-pub struct Meter<E: Write + Drop> {
+pub struct Meter<E: Write + IsTerminal + Drop> {
     // none where nobody looks, or the frame is short
     out: Option<E>,
     // lines of the frame, and those that are done
@@ -14,9 +14,9 @@ pub struct Meter<E: Write + Drop> {
     done: u32,
 }
 
-impl<E: Write + Drop> Meter<E> {
+impl<E: Write + IsTerminal + Drop> Meter<E> {
     pub fn new(err: E, plan: &Plan) -> Meter<E> {
-        let seen = plan.frame_ticks() >= LONG && libc::isatty(2) == 1;
+        let seen = plan.frame_ticks() >= LONG && err.is_terminal();
         Meter {
             out: if seen { Some(err) } else { None },
             lines: plan.numbers().height,

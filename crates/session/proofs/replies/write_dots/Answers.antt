@@ -7,7 +7,7 @@ use Rattle.session.proofs.replies.write_dots.Goals as goal
 
 pub returns : goal.returns
 returns g c = λ p ok.
-    let a = c.in_ok-write.ensures.shows p (refl {a = true}) in
+    let a = c.in_ok-write.ensures.writes p (refl {a = true}) in
     let b = c.in_ok-write_row.ensures a.plain (refl {a = true}) in
     let z = c.write_str-2.ensures.writes b.plain ok in
     let rest = row_text c.in-Some.rest.now in
