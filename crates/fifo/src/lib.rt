@@ -72,7 +72,7 @@ mod tests {
         );
         assert!(rt; ring == [6, 7, 8, 3, 4, 5]);
         assert!(rt; state == [11, 9, 9, 0, 0, 0]);
-        assert!(rt; next_dots(&PLAN, &state, &ring) == &[5]);
+        assert!(rt; next_dots(&PLAN, &state, &ring) == [5].as_slice());
         assert!(rt; next_dots(&PLAN, &state, &ring[0..5]).is_empty());
     }
 

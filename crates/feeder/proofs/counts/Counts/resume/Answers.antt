@@ -2,7 +2,7 @@ use Rattle.std.proofs.Common.{◌<◌, get_or, sym, refl, ap, ◌∙◌, ap₂, 
 use Rattle.timing.specs.Frame.{frame_ticks, frame_dots}
 use Rattle.timing.specs.declared.plans.Plan.{Plan}
 use Rattle.feeder.specs.Panel.{accepted}
-use Rattle.feeder.specs.Lent.{mark_refusal, count_refusal, tick_at, progress_at}
+use Rattle.feeder.specs.Lent.{tick_at, progress_at}
 use Rattle.feeder.proofs.Lents.{too_long, too_short, at_marks, at_counts, inside, counts_right}
 use Rattle.feeder.proofs.counts.Counts.resume.Goals as goal
 

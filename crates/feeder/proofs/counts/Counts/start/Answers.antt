@@ -1,5 +1,4 @@
 use Rattle.std.proofs.Common.{refl}
-use Rattle.timing.specs.Frame.{frame_dots}
 use Rattle.feeder.specs.Model.{begun}
 use Rattle.feeder.proofs.Plans.{start_accepted}
 use Rattle.feeder.proofs.counts.Counts.start.Goals as goal
