@@ -31,13 +31,10 @@ mod tests {
         match session.answer(heap, line)? {
             Answer::Say(reply) => {
                 assert_eq!(rt; reply.to_string(heap)?.as_str(), expected);
-                Ok(())
-            },
-            _ => {
-                assert!(rt; false);
-                Ok(())
-            },
+            }
+            _ => assert!(rt; false),
         }
+        Ok(())
     }
 
     // To each line, after this plan.
@@ -51,7 +48,7 @@ mod tests {
             "kept: 22 ticks, 16 dots\n",
         )?;
         for (line, expected) in lines {
-            says(rt, &mut session, heap, line.as_bytes(), expected).note(line)?;
+            says(rt, &mut session, heap, line.as_bytes(), expected)?;
         }
         // nothing that was turned away has changed the plan
         says(rt, &mut session, heap, b"when 7 1", "tick 21\n")
