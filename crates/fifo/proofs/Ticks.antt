@@ -25,7 +25,7 @@ use Rattle.feeder.proofs.Reach.{reached_tick, steps_fed}
 use Rattle.fifo.specs.Entry.{Going, Ticked, NotMissing, brings, out_of}
 use Rattle.fifo.specs.Ring.{filled, Holds, Continues}
 use Rattle.fifo.specs.declared.outs.Out.{Out}
-use Rattle.fifo.specs.declared.outs.Out.TheVariants.{Dot, Dark, Missing}
+use Rattle.fifo.specs.declared.outs.Out.TheVariants.{Dot}
 use Rattle.fifo.proofs.Places.{holds_filled}
 
 -- what has arrived after the answer is what had, and what is brought

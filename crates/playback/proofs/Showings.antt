@@ -1,7 +1,7 @@
 -- What the panel gets in a frame: each dot in its own tick or missing in it, and by a plan in time none is.
-use Rattle.std.proofs.Common.{◌≡◌, ℕ, ◌+◌, ◌<◌, ◌≤◌, Bool, true, false, cond, ◌⊎◌, sym, refl, ap, ◌∙◌, ap₂, inl, inr, ⊎_elim, arith}
+use Rattle.std.proofs.Common.{◌≡◌, ℕ, ◌≤◌, Bool, true, false, cond, sym, refl, ap, ◌∙◌, ap₂, inl, inr, ⊎_elim, arith}
 use Rattle.std.proofs.lemmas.Bool.{cases_Bool, cases_lt}
-use Rattle.timing.specs.Frame.{frame_ticks, frame_dots, takes, taken, index, InFrame, tick_of}
+use Rattle.timing.specs.Frame.{frame_ticks, takes, taken, index, InFrame, tick_of}
 use Rattle.timing.specs.Good.{good}
 use Rattle.timing.specs.declared.dots.Dot as place
 use Rattle.timing.specs.declared.numbers.Numbers.{Numbers}
@@ -14,7 +14,6 @@ use Rattle.feeder.proofs.Laws.{kept, never_missing, never_late, all_arrive}
 use Rattle.feeder.proofs.Plans.{sound, timely, by_plan}
 use Rattle.playback.specs.Frame.{pixel_of, pixel_in, InPlace, Complete}
 use Rattle.playback.specs.Gives.{exchange_of}
-use Rattle.playback.specs.declared.pixels.Pixel.{Pixel}
 use Rattle.playback.specs.declared.pixels.Pixel.TheVariants.{Dot, Dark, Missing}
 
 pixel_given : (u m : Bool) (n x : ℕ) → (exchange_of (cond u (cond m (given.Missing n) (given.Dot n)) (given.Dark n)) x).pixel ≡ cond u (cond m Missing (Dot x)) Dark

@@ -1,14 +1,14 @@
 -- A tick of the typed FIFO: its places go on with the feeder, and its ring goes on holding the memory's picture.
 use Rattle.std.proofs.Common.{◌≡◌, ℕ, suc, ◌+◌, ◌-◌, ◌%◌, ◌<◌, ◌≤◌, Bool, true, false, cond, leb, List, length, get_or, Ok, Err, sym, refl, ap, ◌∙◌, subst, ap₂, ⊎_elim, mod-lt, arith}
 use native.Mathlib.Nat.{mod-add-mod}
-use Rattle.std.proofs.lemmas.Bool.{cond_both, cases_lt, cases_Bool, leb-false}
+use Rattle.std.proofs.lemmas.Bool.{cases_Bool, leb-false}
 use Rattle.timing.specs.Frame.{takes, taken, frame_ticks}
 use Rattle.timing.specs.declared.numbers.Numbers.{Numbers}
 use Rattle.timing.specs.declared.plans.Plan.{Plan}
 use Rattle.timing.proofs.Curves.{taken_when, taken_unless}
 use Rattle.timing.proofs.Goods.{good_says, small}
-use Rattle.feeder.specs.Feed.{Follows, Fed}
-use Rattle.feeder.specs.Model.{Demand, answers, answered, waiting, after_answer, after_tick, uses, misses, outcome, requests}
+use Rattle.feeder.specs.Feed.{Follows}
+use Rattle.feeder.specs.Model.{answers, after_answer, uses, misses, outcome, requests}
 use Rattle.feeder.specs.Panel.{demand_of}
 use Rattle.feeder.specs.Step.{plan_in, tick_in, Moved, Steps}
 use Rattle.feeder.specs.declared.counts.Counts.{Counts}

@@ -1,5 +1,5 @@
 -- A typed FIFO, tick by tick, and frames from first tick to last. Assumes nothing: these are definitions.
-use Rattle.std.specs.Prelude.{◌≡◌, ℕ, zero, suc, ◌+◌, ◌<◌, ◌≤◌, Bool, true, false, ◌⊎◌, List, length, Some, None, Ok, Err, Option, Result, ◌≢◌}
+use Rattle.std.specs.Prelude.{◌≡◌, ℕ, zero, suc, ◌+◌, ◌<◌, ◌≤◌, Bool, false, ◌⊎◌, List, length, Some, None, Ok, Err, Option, Result, ◌≢◌}
 use Rattle.std.specs.Option.{option_map}
 use Rattle.timing.specs.Frame.{frame_ticks, frame_dots, takes, taken, index, InFrame, TakesDot, tick_of}
 use Rattle.timing.specs.declared.dots.Dot as place

@@ -1,5 +1,5 @@
 -- A probe follows the latest memory from a frame's start, and its samples are what is seen of that.
-use Rattle.std.proofs.Common.{◌≡◌, ℕ, suc, ◌-◌, Bool, true, false, cond, Some, None, Option, sym, refl, ap, ◌∙◌, ap₂}
+use Rattle.std.proofs.Common.{◌≡◌, ℕ, suc, ◌-◌, Bool, true, false, cond, Some, None, sym, refl, ap, ◌∙◌, ap₂}
 use Rattle.timing.specs.Frame.{takes, taken}
 use Rattle.timing.specs.declared.numbers.Numbers.{Numbers}
 use Rattle.timing.specs.declared.plans.Plan.{Plan}

@@ -1,5 +1,5 @@
 -- A frame by the latest memory, tick by tick. Assumes nothing: these are definitions.
-use Rattle.std.specs.Prelude.{◌≡◌, ℕ, suc, ◌+◌, ◌-◌, ◌*◌, ◌/◌, ◌%◌, ◌<◌, ◌≤◌, min, Bool, cond, Some, None, Option, nat_lt, slice_index_or}
+use Rattle.std.specs.Prelude.{◌≡◌, ℕ, suc, ◌+◌, ◌-◌, ◌*◌, ◌/◌, ◌%◌, ◌<◌, ◌≤◌, min, cond, Some, None, Option, nat_lt, slice_index_or}
 use Rattle.timing.specs.Frame.{frame_ticks, takes, taken}
 use Rattle.timing.specs.declared.numbers.Numbers.{Numbers}
 use Rattle.feeder.specs.Model.{after_answer, misses, after, latest}

@@ -1,4 +1,4 @@
-use Rattle.std.proofs.Common.{◌-◌, ap, ◌∙◌, subst, arith}
+use Rattle.std.proofs.Common.{ap, ◌∙◌, subst, arith}
 use Rattle.timing.specs.Good.{good}
 use Rattle.timing.proofs.Goods.{good_says}
 use Rattle.deadline.specs.Least.{NoCapacity}

@@ -1,4 +1,3 @@
-use Rattle.std.proofs.Common.{refl}
 use Rattle.playback.proofs.Checks.{going, state_six, ready_says}
 use Rattle.playback.proofs.entries.try_tick.Goals as goal
 

@@ -1,8 +1,7 @@
-use Rattle.std.proofs.Common.{◌≡◌, ℕ, length, Option, sym, refl, ap, ◌∙◌, subst₂, add-one, arith}
+use Rattle.std.proofs.Common.{◌≡◌, length, Option, sym, refl, ap, ◌∙◌, subst₂, add-one, arith}
 use Rattle.std.specs.Option.{option_or}
 use Rattle.timing.specs.declared.numbers.Numbers.{Numbers}
-use Rattle.playback.specs.Frame.{Frames, FirstOf}
-use Rattle.playback.specs.Script.{Script, next_frame, after_frames}
+use Rattle.playback.specs.Script.{next_frame}
 use Rattle.playback.specs.declared.underruns.Underrun.{Underrun}
 use Rattle.playback.proofs.Runs.{Behind, behind_none, behind_more, behind_all}
 use Rattle.playback.proofs.Showings.{in_place, complete}

@@ -1,6 +1,6 @@
-use Rattle.std.proofs.Common.{◌≡◌, ap, ◌∙◌}
+use Rattle.std.proofs.Common.{ap}
 use Rattle.timing.specs.declared.plans.Plan.{Plan}
-use Rattle.scope.specs.Fill.{fill, sample_in}
+use Rattle.scope.specs.Fill.{sample_in}
 use Rattle.scope.specs.declared.samples.Sample.{Sample}
 use Rattle.scope.proofs.charts.next_fill.Goals as goal
 

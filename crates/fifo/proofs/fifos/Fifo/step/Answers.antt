@@ -10,7 +10,6 @@ use Rattle.feeder.specs.Step.{Moved}
 use Rattle.fifo.specs.Frame.{Given}
 use Rattle.fifo.specs.Ring.{Loaded}
 use Rattle.fifo.proofs.Turns.{placed, Brings, brings_from, not_over, takes_few, next_head, next_tail, count_few, played, never_stuck, given_pixel}
-use Rattle.fifo.proofs.fifos.Fifo.step.Given as given
 use Rattle.fifo.proofs.fifos.Fifo.step.Goals as goal
 
 -- the ring has as many places as the plan's capacity

@@ -13,7 +13,6 @@ use Rattle.playback.specs.declared.pixels.Exchange.{Exchange}
 use Rattle.playback.specs.Ring.{Loaded}
 use Rattle.playback.proofs.Turns.{placed, Brings, brings_from, not_over, takes_few, next_head, next_tail, count_few, played, never_stuck}
 use Rattle.playback.proofs.Ticks.{fed_pixel}
-use Rattle.playback.proofs.fifos.Fifo.step.Given as given
 use Rattle.playback.proofs.fifos.Fifo.step.Goals as goal
 
 -- the ring has as many places as the plan's capacity

@@ -1,9 +1,9 @@
-use Rattle.std.proofs.Common.{◌≡◌, ℕ, suc, ◌+◌, ◌*◌, ◌/◌, ◌%◌, ◌<◌, ◌≤◌, min, cond, ltb, sym, refl, ap, ◌∙◌, subst, ap₂, subst₂, zero-mul, div-le_self, add-one, arith, length-set}
+use Rattle.std.proofs.Common.{suc, ◌+◌, ◌*◌, ◌/◌, ◌%◌, ◌<◌, min, cond, ltb, refl, ap, ◌∙◌, subst, subst₂, zero-mul, div-le_self, add-one, arith, length-set}
 use Rattle.timing.specs.Frame.{frame_ticks}
 use Rattle.timing.specs.declared.numbers.Numbers.{Numbers}
 use Rattle.timing.specs.declared.plans.Plan.{Plan}
 use Rattle.timing.proofs.Goods.{small}
-use Rattle.feeder.specs.Step.{plan_in, tick_in}
+use Rattle.feeder.specs.Step.{plan_in}
 use Rattle.scope.specs.Fill.{Spans}
 use Rattle.scope.proofs.Bands.{columns_none, columns_more, column_on, column_some, column_inside, frame_some, charted}
 use Rattle.scope.proofs.charts.Chart.of.Goals as goal

@@ -1,4 +1,4 @@
-use Rattle.std.proofs.Common.{◌≡◌, ◌-◌, sym, ap, ◌∙◌, ap₂}
+use Rattle.std.proofs.Common.{◌≡◌, ◌-◌, ap, ◌∙◌, ap₂}
 use Rattle.timing.specs.Frame.{taken}
 use Rattle.feeder.specs.Step.{plan_in, tick_in}
 use Rattle.feeder.specs.declared.counts.Counts.{Counts}
