@@ -1,5 +1,5 @@
 -- Each message about a row that is no plan is the text that the specification gives it.
-use Rattle.std.proofs.Common.{◌≡◌, ◌++◌, codes, decimal}
+use Rattle.std.proofs.Common.{◌++◌, codes, decimal}
 use Rattle.session.specs.Messages.{plan_text}
 use Rattle.session.proofs.Printed.{prints_is, prints_of}
 use Rattle.session.proofs.whys.PlanWhyDisplay.fmt.Goals as goal
