@@ -2,11 +2,11 @@
 use Rattle.std.proofs.Common.{◌≡◌, ℕ, ◌<◌, List, [], ◌∷◌, ◌++◌, length, get_or, sym, refl, ap, ◌∙◌, subst, append_assoc, append-nil, arith}
 use Rattle.std.specs.Str.Parse.{AllDigits}
 use Rattle.std.specs.Char.{digit_value}
-use Rattle.std.specs.List.{AllByRecursion as All}
+use Rattle.std.specs.List.{AllByRecursion}
 use Rattle.text.specs.Rows.{Row, Numeral, Cut, capped}
 
 abbrev pub Spaceless : List ℕ → Type 0
-Spaceless word = All (λ c. c ≡ 32 → ⊥) word
+Spaceless word = AllByRecursion (λ c. c ≡ 32 → ⊥) word
 
 abbrev pub Stops : List ℕ → Type 0
 Stops rest = 0 < length rest → get_or rest 0 0 ≡ 32

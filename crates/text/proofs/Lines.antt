@@ -1,7 +1,7 @@
 -- Reading and writing are each other's inverse: a line says what is written of it, one thing at most, and in one way.
 use Rattle.std.proofs.Common.{◌≡◌, ℕ, ◌^◌, ◌<◌, ◌⊎◌, List, [], ◌∷◌, ◌++◌, length, get_or, Some, None, decimal, Option, sym, refl, ap, ◌∙◌, subst, inl, inr, arith}
 use Rattle.std.specs.Str.Parse.{AllDigits}
-use Rattle.std.specs.List.{AllByRecursion as All}
+use Rattle.std.specs.List.{AllByRecursion}
 use Rattle.std.proofs.lemmas.Fmt.{decimal_is_IsNumeral, decimal_digit, decimal-digits_value, first_decimal}
 use Rattle.std.proofs.lemmas.List.{append_cancel_left}
 use Rattle.std.proofs.lemmas.Str.Parse.{numerals_by_value, tells_digits}
@@ -30,14 +30,14 @@ numeral_back n small =
     let v = h.1 in
     record { some = h.0.0; digits = h.0.1; lone_zero = lone_zero n small; is = omega arith }
 
-row_back : (ns : List ℕ) → All (λ n. n < 2 ^ 32) ns → Row capped (row_text ns) ns
+row_back : (ns : List ℕ) → AllByRecursion (λ n. n < 2 ^ 32) ns → Row capped (row_text ns) ns
 row_back [] h = refl
 row_back (n ∷ ns) h = (decimal n, row_text ns, refl, numeral_back n h.0, row_back ns h.1)
 
 numeral_plain : (word : List ℕ) (n : ℕ) → n < 2 ^ 32 → Numeral exact word n → Numeral capped word n
 numeral_plain word n small h = let e = h.is in record { some = h.some; digits = h.digits; lone_zero = h.lone_zero; is = omega arith }
 
-row_plain : (text ns : List ℕ) → All (λ n. n < 2 ^ 32) ns → Row exact text ns → Row capped text ns
+row_plain : (text ns : List ℕ) → AllByRecursion (λ n. n < 2 ^ 32) ns → Row exact text ns → Row capped text ns
 row_plain text [] small h = h
 row_plain text (n ∷ ns) small h = (h.0, h.1, h.2, numeral_plain h.0 n small.0 h.3, row_plain h.1 ns small.1 h.4)
 
@@ -46,7 +46,7 @@ numeral_one_way word n small h =
     let e = h.is in
     sym (ap decimal e ∙ decimal-digits_value (numerals_by_value (AllDigits 10) tells_digits) word h.digits h.some h.lone_zero (omega arith))
 
-row_one_way : (text ns : List ℕ) → All (λ n. n < 2 ^ 32) ns → Row exact text ns → text ≡ row_text ns
+row_one_way : (text ns : List ℕ) → AllByRecursion (λ n. n < 2 ^ 32) ns → Row exact text ns → text ≡ row_text ns
 row_one_way text [] small h = h
 row_one_way text (n ∷ ns) small h =
     let w = numeral_one_way h.0 n small.0 h.3 in
@@ -110,7 +110,7 @@ one_meaning line s t (inl p) (inl q) = p.1 ∙ sym q.1
 one_meaning line s t (inl p) (inr o) = sym (one_order line t s o (inl p))
 one_meaning line s t (inr o) h = one_order line s t o h
 
-row_fits : (text ns : List ℕ) → Row capped text ns → All (λ n. n < 2 ^ 32) ns
+row_fits : (text ns : List ℕ) → Row capped text ns → AllByRecursion (λ n. n < 2 ^ 32) ns
 row_fits text [] h = tt
 row_fits text (n ∷ ns) h = let e = h.3.is in (omega arith, row_fits h.1 ns h.4)
 

@@ -1,6 +1,6 @@
 -- No keyword begins another, and each takes its numbers in one way.
 use Rattle.std.proofs.Common.{◌≡◌, ℕ, zero, suc, ◌<◌, Bool, true, false, cond, ◌&&◌, eqb, List, [], ◌∷◌, ◌++◌, map, length, get_or, Some, None, Decides, Option, sym, refl, ap, ◌∙◌, subst, inl, inr, arith, Bor}
-use Rattle.std.specs.List.{AllByRecursion as All}
+use Rattle.std.specs.List.{AllByRecursion}
 use Rattle.std.proofs.lemmas.Bool.{eqb-true, eq-eqb}
 use Rattle.text.specs.Keyed.{key_text, Unkeyed, IsKeyed, IsKeyedBy, onto, flags_of, alone, by_flags, assembled}
 use Rattle.text.specs.Said.{Said, plan, in_time, run_latest, run_by, chart_latest, trace_latest, when, at, dots, ring, tick, state, set_state, next, help, nothing, keyword, flag, numbers, Whole, Remark}
@@ -10,7 +10,7 @@ use Rattle.text.specs.declared.keys.Key.TheVariants.{Plan, InTime, RunLatest, Ru
 abbrev all_keys : List Key
 all_keys = Plan ∷ InTime ∷ RunLatest ∷ RunBy ∷ ChartLatest ∷ TraceLatest ∷ When ∷ At ∷ Dots ∷ Ring ∷ Tick ∷ State ∷ Next ∷ Help ∷ []
 
-each : (P : Key → Type 0) → All P all_keys → (key : Key) → P key
+each : (P : Key → Type 0) → AllByRecursion P all_keys → (key : Key) → P key
 each P h Plan = h.0
 each P h InTime = h.1.0
 each P h RunLatest = h.1.1.0

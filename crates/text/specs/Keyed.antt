@@ -2,7 +2,7 @@
 use Rattle.std.specs.Prelude.{◌≡◌, ℕ, zero, suc, Bool, true, false, List, [], ◌∷◌, ◌++◌, map, Some, None, vec_items, codes, Option, Vec, MatchOption, ◌≢◌}
 use Rattle.std.specs.Borrow.{Bor}
 use Rattle.std.specs.declared.alloc.Global.{Global}
-use Rattle.std.specs.List.{AllByRecursion as All}
+use Rattle.std.specs.List.{AllByRecursion}
 use Rattle.text.specs.Said.{Said, said, flag, plan, in_time, run_latest, run_by, chart_latest, trace_latest, when, at, dots, ring, tick, state, set_state, next, help}
 use Rattle.text.specs.declared.commands.Command.{Command}
 use Rattle.text.specs.declared.keys.Key.{Key}
@@ -33,7 +33,7 @@ abbrev pub IsKeyed : List ℕ → Option (Key × Bor (List ℕ)) → Type 0
 IsKeyed line r = MatchOption r ((key : Key) → Unkeyed line key) (λ p. line ≡ key_text p.0 ++ p.1.now)
 
 abbrev pub IsKeyedBy : List Key → List ℕ → Option (Key × Bor (List ℕ)) → Type 0
-IsKeyedBy keys line r = MatchOption r (All (Unkeyed line) keys) (λ p. line ≡ key_text p.0 ++ p.1.now)
+IsKeyedBy keys line r = MatchOption r (AllByRecursion (Unkeyed line) keys) (λ p. line ≡ key_text p.0 ++ p.1.now)
 
 -- zeros and ones as flags
 abbrev pub onto : Bool → Option (List Bool) → Option (List Bool)

@@ -2,7 +2,7 @@
 use Rattle.std.specs.Prelude.{◌≡◌, ℕ, ◌-◌, ◌^◌, ◌<◌, min, List, [], ◌∷◌, ◌++◌, length, vec_items, decimal, Option, Vec, MatchOption, ◌≢◌, slice_index, slice_index_or}
 use Rattle.std.specs.Str.Parse.{AllDigits, digits_value}
 use Rattle.std.specs.declared.alloc.Global.{Global}
-use Rattle.std.specs.List.{AllByRecursion as All}
+use Rattle.std.specs.List.{AllByRecursion}
 
 -- a number too large for its type is the largest that its type has
 abbrev pub capped : ℕ → ℕ
@@ -31,7 +31,7 @@ row_text (n ∷ ns) = 32 ∷ (decimal n ++ row_text ns)
 -- the word up to the first space, and the rest
 pub record Cut (text word rest : List ℕ) : Type 0 where
   pub whole : text ≡ word ++ rest
-  pub spaceless : All (λ c. c ≢ 32) word
+  pub spaceless : AllByRecursion (λ c. c ≢ 32) word
   pub stops : 0 < length rest → slice_index rest 0 ≡ 32
 
 -- what reading a word, or a row, may answer: the numbers, or that there are none

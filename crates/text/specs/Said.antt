@@ -1,6 +1,6 @@
 -- What a command says, how it is written, and when a line says it. Assumes nothing: these are definitions.
 use Rattle.std.specs.Prelude.{◌≡◌, ℕ, ◌^◌, ◌<◌, Bool, cond, ◌⊎◌, List, [], ◌∷◌, ◌++◌, map, vec_items, codes}
-use Rattle.std.specs.List.{AllByRecursion as All}
+use Rattle.std.specs.List.{AllByRecursion}
 use Rattle.text.specs.Rows.{Row, row_text, capped, exact}
 use Rattle.text.specs.declared.commands.Command.{Command}
 use Rattle.text.specs.declared.commands.Command.TheVariants.{Plan, InTime, RunLatest, RunBy, ChartLatest, TraceLatest, When, At, Dots, Ring, Tick, State, SetState, Next, Help, Nothing}
@@ -107,7 +107,7 @@ Whole nothing = ⊥
 
 pub record Fitting (s : Said) : Type 0 where
   pub whole : Whole s
-  pub fit : All (λ n. n < 2 ^ 32) (numbers s)
+  pub fit : AllByRecursion (λ n. n < 2 ^ 32) (numbers s)
 
 -- the line is the keyword of s with its numbers behind it
 pub record Order (read : ℕ → ℕ) (line : List ℕ) (s : Said) : Type 0 where

@@ -1,5 +1,5 @@
 use Rattle.std.proofs.Common.{ℕ, List, ◌++◌, Some, None, sym, ap, ◌∙◌, subst}
-use Rattle.std.specs.List.{AllByRecursion as All}
+use Rattle.std.specs.List.{AllByRecursion}
 use Rattle.std.proofs.ByRecursion.{All-more}
 use Rattle.std.proofs.lemmas.Slice.Eq.{strip_prefix_is}
 use Rattle.std.proofs.lemmas.List.{take_all}
@@ -19,4 +19,4 @@ loop-key-preserved c =
     (λ tail e. strip_prefix_is Decides-eqb c.args.line.now c.as_bytes.result.now None c.in_default.ensures.cases tail (e ∙ ap (λ (t : List ℕ). t ++ tail) (sym (c.as_bytes.ensures.value ∙ c.text.ensures))))
 
 pub returns : goal.returns
-returns c = subst (All (Unkeyed c.args.line.now)) (take_all c.loop-key.key-index c.args.keys.now c.loop-key-test.false) c.loop-key.invariant
+returns c = subst (AllByRecursion (Unkeyed c.args.line.now)) (take_all c.loop-key.key-index c.args.keys.now c.loop-key-test.false) c.loop-key.invariant

@@ -1,7 +1,7 @@
 use Rattle.std.proofs.Common.{take}
-use Rattle.std.specs.List.{AllByRecursion as All}
+use Rattle.std.specs.List.{AllByRecursion}
 use Rattle.text.specs.Keyed.{Unkeyed}
 use Rattle.text.proofs.keys.split_by.Given as goal
 
 abbrev pub invariant-loop-key : goal.invariant-loop-key
-invariant-loop-key l = All (Unkeyed l.line) (take l.key-index l.keys)
+invariant-loop-key l = AllByRecursion (Unkeyed l.line) (take l.key-index l.keys)
