@@ -12,6 +12,7 @@ use session::{Answer, Reply, Session};
 use std::env;
 use std::fs::File;
 use std::io::{BufRead, BufReader, IsTerminal, Read};
+use std::process::ExitCode;
 
 // A frame, where a plan is there to be played.
 fn perform(rt: &HostRuntime, session: &Session, answer: &Answer) -> anyhow::Result<()> {
@@ -87,10 +88,9 @@ fn run(rt: &HostRuntime) -> anyhow::Result<u64> {
 }
 
 // Ends with status 1 where a line was turned away, or where the input or the output failed.
-fn main(rt: HostRuntime) -> anyhow::Result<()> {
-    let turned = run(&rt)?;
-    if turned > 0 {
-        return Err(anyhow!("lines were turned away"));
+fn main(rt: HostRuntime) -> anyhow::Result<ExitCode> {
+    if run(&rt)? > 0 {
+        return Ok(ExitCode::FAILURE);
     }
-    Ok(())
+    Ok(ExitCode::SUCCESS)
 }

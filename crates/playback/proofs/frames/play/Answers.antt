@@ -9,7 +9,7 @@ use Rattle.playback.proofs.frames.play.Goals as goal
 
 pub returns-then-ring-numbers : goal.returns-then-ring-numbers
 returns-then-ring-numbers g c = record {
-  plays = record { size = λ e. c.if-ring-numbers.true (e ∙ ap (λ (p : Numbers). p.capacity) (sym c.numbers.ensures)); why = refl; same = (refl, refl, refl) };
+  plays = record { size = λ e. omega (arith, ap (λ (p : Numbers). p.capacity) c.numbers.ensures); why = refl; same = (refl, refl, refl) };
   place = λ w picture. in_place c.args.plan.numbers w picture c.args.plan.ok;
   complete = λ fast w picture. complete c.args.plan.numbers w picture c.args.plan.ok fast;
 }
@@ -30,7 +30,7 @@ loop-number-preserved g c =
 pub returns : goal.returns
 returns g c =
     let all : c.loop-number.number ≡ c.args.frames = omega arith in
-    let size : length c.args.ring.now ≡ c.args.plan.numbers.capacity = c.if-ring-numbers.false ∙ ap (λ (p : Numbers). p.capacity) c.numbers.ensures in
+    let size : length c.args.ring.now ≡ c.args.plan.numbers.capacity = omega (arith, ap (λ (p : Numbers). p.capacity) c.numbers.ensures) in
     record {
       plays = behind_all g.M.Memory.script g.S.Screen.accepts _ _ _ _ _ _ _ _ _ c.loop-number.invariant all size;
       place = λ w picture. in_place c.args.plan.numbers w picture c.args.plan.ok;
