@@ -68,7 +68,7 @@ takes_given true true n = refl
 takes_given true false n = refl
 takes_given false m n = refl
 
-takes_outcome : (p : Numbers) (w : Bool) (t : ℕ) (f : Progress) → taken p (suc t) ≡ taken p t + takes_of (outcome (demand_of p) w t f)
+pub takes_outcome : (p : Numbers) (w : Bool) (t : ℕ) (f : Progress) → taken p (suc t) ≡ taken p t + takes_of (outcome (demand_of p) w t f)
 unfolding outcome
 takes_outcome p w t f =
     let given_takes = takes_given (uses (demand_of p) t) (misses (demand_of p) t (after_answer (demand_of p) w f)) (requests (demand_of p) w t f) in
@@ -87,7 +87,7 @@ arrived_by d w t f allowed order =
     (λ none. let off : w ≡ false = sym allowed ∙ none in rw off (omega arith))
 
 -- a loaded ring goes on holding the picture
-holds_loaded : (from c n : ℕ) (r r₁ : List ℕ) (picture : ℕ → ℕ) → c + n ≤ from + length r → Loaded picture c n r r₁ → Holds (length r) from c r picture → Holds (length r) from (c + n) r₁ picture
+pub holds_loaded : (from c n : ℕ) (r r₁ : List ℕ) (picture : ℕ → ℕ) → c + n ≤ from + length r → Loaded picture c n r r₁ → Holds (length r) from c r picture → Holds (length r) from (c + n) r₁ picture
 holds_loaded from c n r r₁ picture room l holds k low high = ⊎_elim
     (λ (old : k < c). l.other (k % length r) (λ i h e. apart (length r) k (c + i) (omega arith) (omega arith) (sym e)) ∙ holds k low old)
     (λ (new : c ≤ k).
@@ -100,7 +100,7 @@ same_pixel (given.Dot n) x y h = ap Dot (h n refl)
 same_pixel (given.Dark n) x y h = refl
 same_pixel (given.Missing n) x y h = refl
 
-at_most : (b : Bool) (x : ℕ) → cond b x 0 ≤ x
+pub at_most : (b : Bool) (x : ℕ) → cond b x 0 ≤ x
 at_most true x = omega arith
 at_most false x = omega arith
 

@@ -50,8 +50,8 @@ fn is_late(counts: &Counts, brought: usize) -> bool
     counts.answers(false)
 }
 
-// The same, and what is brought may be.
-fn accept(plan: &[u32], state: &[u32], length: usize, brought: usize) -> Result<Counts, Refusal>
+// The same, and what is brought may be. The first that is wrong is the refusal.
+pub fn accept(plan: &[u32], state: &[u32], length: usize, brought: usize) -> Result<Counts, Refusal>
     ensures { MatchResult result (Ready plan.now state.now length brought) (Refuses plan.now state.now length brought) }
 {
     let counts = match open(plan, state, length) {

@@ -12,7 +12,7 @@ mod rings;
 mod screens;
 
 pub use ends::{AtOnce, ByList, Latest};
-pub use entries::{next_dots, tick};
+pub use entries::{accept, next_dots, tick};
 pub use fifos::Fifo;
 pub use memories::Memory;
 pub use outs::Out;

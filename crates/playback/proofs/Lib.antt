@@ -1,5 +1,3 @@
-pub mod Checks
-pub mod Halves
 pub mod Places
 pub mod Runs
 pub mod Showings

@@ -21,8 +21,8 @@ use Rattle.playback.specs.Gives.{exchange_of, is_missing}
 use Rattle.playback.specs.Script.{Script, next_frame, after_frames}
 use Rattle.playback.specs.declared.fifos.Fifo.{Fifo}
 use Rattle.playback.specs.declared.pixels.Pixel.{Pixel}
-use Rattle.playback.specs.declared.refusals.Refusal.{Refusal}
-use Rattle.playback.specs.declared.refusals.Refusal.TheVariants.{Plan as Plan', State, Ring, Brought, Late}
+use Rattle.fifo.specs.declared.refusals.Refusal.{Refusal}
+use Rattle.fifo.specs.declared.refusals.Refusal.TheVariants.{Plan as Plan', State, Ring, Brought, Late}
 use Rattle.playback.specs.declared.underruns.Underrun.{Underrun}
 
 -- a tick of the frame with a ring that fits is not refused

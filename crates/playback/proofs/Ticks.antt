@@ -2,18 +2,17 @@
 use Rattle.std.proofs.Common.{◌≡◌, ℕ, ◌+◌, ◌-◌, ◌%◌, ◌<◌, ◌≤◌, Bool, true, false, cond, List, length, get_or, None, Ok, sym, refl, ap, ◌∙◌, subst, ap₂, subst₂, ⊎_elim, add-one, arith}
 use Rattle.std.proofs.lemmas.Bool.{cond_both, cases_lt}
 use Rattle.std.proofs.lemmas.Bool.Decides.{nat_tests}
+use mathlib.Core.Path.{subst₃}
 use Rattle.timing.specs.Frame.{frame_ticks, taken}
+use Rattle.timing.specs.Row.{numbers_in}
 use Rattle.timing.specs.declared.numbers.Numbers.{Numbers}
 use Rattle.timing.specs.declared.plans.Plan.{Plan}
 use Rattle.timing.proofs.Curves.{taken_rises}
-use Rattle.timing.proofs.Goods.{good_says}
 use Rattle.feeder.specs.Feed.{Fed}
 use Rattle.feeder.specs.Lent.{tick_at, progress_at, state_refusal, state_of}
-use Rattle.feeder.specs.Model.{Demand, answers, answered, waiting, after_answer, misses, outcome}
+use Rattle.feeder.specs.Model.{Demand, answers, answered, waiting, after_answer}
 use Rattle.feeder.specs.Panel.{demand_of, Reached}
-use Rattle.feeder.specs.Step.{plan_in, tick_in, Moved, Refused as StepRefuses}
-use Rattle.feeder.specs.declared.refusals.StepRefusal.{StepRefusal}
-use Rattle.feeder.specs.declared.refusals.StepRefusal.TheVariants.{FrameOver, NotPending, Late}
+use Rattle.feeder.specs.Step.{plan_in, tick_in, Moved}
 use Rattle.feeder.specs.declared.counts.Counts.{Counts}
 use Rattle.feeder.specs.declared.outcomes.Outcome.{Outcome}
 use Rattle.feeder.specs.declared.outcomes.Outcome.TheVariants as given
@@ -22,11 +21,16 @@ use Rattle.feeder.proofs.Laws.{tick_arrived}
 use Rattle.feeder.proofs.Lents.{progress_back, tick_back, marks_back, accepted_back}
 use Rattle.feeder.proofs.Plans.{accepted_kept}
 use Rattle.feeder.proofs.Reach.{reached_tick, steps_fed}
-use Rattle.playback.specs.Entry.{Going, Ticked, brings}
+use Rattle.playback.specs.Entry.{Ticked}
+use Rattle.fifo.specs.Entry.{Ready, Going, brings}
 use Rattle.playback.specs.Gives.{exchange_of, is_missing}
-use Rattle.playback.specs.Ring.{filled, Holds, Continues}
+use Rattle.fifo.specs.Refusal.{refusal}
+use Rattle.fifo.specs.Ring.{filled, Holds, Continues}
 use Rattle.playback.specs.declared.pixels.Exchange.{Exchange}
-use Rattle.playback.proofs.Places.{loaded_filled, holds_loaded}
+use Rattle.fifo.proofs.Checks.{ready_number}
+use Rattle.fifo.proofs.Ticks.{dot_arrived, few}
+use Rattle.fifo.proofs.Turns.{holds_loaded}
+use Rattle.playback.proofs.Places.{loaded_filled}
 
 -- what has arrived after the answer is what had, and what is brought
 pub arrived_by : (d : Demand) (w : Bool) (f : Progress) → answers d w f ≡ w → f.arrived ≤ f.requested → (after_answer d w f).arrived ≡ f.arrived + cond w (f.requested - f.arrived) 0
@@ -45,29 +49,10 @@ same_exchange (given.Dot n) x y h = ap (λ z. exchange_of (given.Dot n) z) (h n 
 same_exchange (given.Dark n) x y h = refl
 same_exchange (given.Missing n) x y h = refl
 
-pub dot_arrived : (d : Demand) (w : Bool) (t : ℕ) (f : Progress) (n : ℕ) → outcome d w t f ≡ given.Dot n → d.need t < (after_answer d w f).arrived
-unfolding outcome misses
-dot_arrived d w t f n h = grind (arith, nat_tests)
-
 pub fed_pixel : (o : Outcome) (x : ℕ) → Fed o → is_missing (exchange_of o x).pixel ≡ false
 fed_pixel (given.Dot n) x h = refl
 fed_pixel (given.Dark n) x h = refl
 fed_pixel (given.Missing n) x h = absurd h
-
--- what is brought has room in the ring
-pub few : (c : Counts) (m n : ℕ) → Going c m n → n ≤ m
-unfolding demand_of
-few c m n going =
-    let k = accepted_kept (plan_in c) (tick_in c) c.progress c.ok in
-    let g = good_says (plan_in c) c.scan.plan.ok in
-    ⊎_elim (λ (some : 0 < n). omega (arith, going.whole some, k.burst, g.burst_most, going.size)) (λ (none : n ≤ 0). omega arith) (cases_lt 0 n)
-
--- and such a tick is never refused
-pub never_refused : (c : Counts) (m n : ℕ) (e : StepRefusal) → Going c m n → StepRefuses c (brings n) e → ⊥
-unfolding answers demand_of
-never_refused c m n FrameOver going h = omega (arith, going.allowed.0)
-never_refused c m n NotPending going h = let w = h.1 in let off = h.2 in let allowed = going.allowed.1 in grind (arith, nat_tests)
-never_refused c m n (Late t) going h = let w = h.1 in let on = h.2 in let due = h.3 in let allowed = going.allowed.1 in grind (arith, nat_tests)
 
 module _ (c c₁ : Counts) (r b : List ℕ) (o : Outcome) (going : Going c (length r) (length b)) (moved : Moved c (brings (length b)) o c₁) where
   after_brought : (after_answer (demand_of (plan_in c)) (brings (length b)) c.progress).arrived ≡ c.progress.arrived + length b
@@ -124,3 +109,10 @@ module _ (c c₁ : Counts) (r b : List ℕ) (o : Outcome) (going : Going c (leng
         reached = λ reached. subst₂ (λ n (f : Progress). Reached p n f) (sym (add-one t)) (sym (progress ∙ moved.progress)) (reached_tick p t c.progress (brings (length b)) reached);
         fed = λ reached fast. ap (λ (x : Exchange). is_missing x.pixel) eo ∙ fed_pixel o _ (steps_fed c c₁ (brings (length b)) (Ok o) moved reached fast);
       }
+
+-- and so it is one of the lent numbers
+pub ready_says : (xs s r b : List ℕ) (m n : ℕ) (c : Counts) (e : Exchange) (s₁ r₁ : List ℕ) → Ready xs s m n c → Ticked (plan_in c) (tick_in c) c.progress r b e s₁ r₁ → (refusal xs s m n ≡ 0) × Ticked (numbers_in xs) (tick_at s) (progress_at s) r b e s₁ r₁
+ready_says xs s r b m n c e s₁ r₁ ready ticked = (
+  ready_number xs s m n c ready,
+  subst₃ (λ (p : Numbers) t (f : Progress). Ticked p t f r b e s₁ r₁) ready.opened.plan_is ready.opened.tick_is ready.opened.progress_is ticked,
+)

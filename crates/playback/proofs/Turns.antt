@@ -1,33 +1,31 @@
 -- A tick of the typed FIFO: its places go on with the feeder, and its ring goes on holding the memory's picture.
-use Rattle.std.proofs.Common.{◌≡◌, ℕ, suc, ◌+◌, ◌-◌, ◌%◌, ◌<◌, ◌≤◌, Bool, true, false, cond, leb, List, length, get_or, Ok, Err, sym, refl, ap, ◌∙◌, subst, ap₂, ⊎_elim, mod-lt, arith}
+use Rattle.std.proofs.Common.{◌≡◌, ℕ, suc, ◌+◌, ◌-◌, ◌%◌, ◌<◌, ◌≤◌, Bool, cond, List, length, get_or, Ok, sym, ap, ◌∙◌, subst, ap₂, mod-lt, arith}
 use native.Mathlib.Nat.{mod-add-mod}
-use Rattle.std.proofs.lemmas.Bool.{cases_Bool, leb-false}
-use Rattle.timing.specs.Frame.{takes, taken, frame_ticks}
-use Rattle.timing.specs.declared.numbers.Numbers.{Numbers}
+use Rattle.timing.specs.Frame.{taken}
 use Rattle.timing.specs.declared.plans.Plan.{Plan}
-use Rattle.timing.proofs.Curves.{taken_when, taken_unless}
 use Rattle.timing.proofs.Goods.{good_says, small}
 use Rattle.feeder.specs.Feed.{Follows}
-use Rattle.feeder.specs.Model.{answers, after_answer, uses, misses, outcome, requests}
+use Rattle.feeder.specs.Model.{answers}
 use Rattle.feeder.specs.Panel.{demand_of}
-use Rattle.feeder.specs.Step.{plan_in, tick_in, Moved, Steps}
+use Rattle.feeder.specs.Step.{plan_in, tick_in, Moved}
 use Rattle.feeder.specs.declared.counts.Counts.{Counts}
 use Rattle.feeder.specs.declared.outcomes.Outcome.{Outcome}
 use Rattle.feeder.specs.declared.outcomes.Outcome.TheVariants as given
-use Rattle.feeder.specs.declared.refusals.StepRefusal.{StepRefusal}
 use Rattle.feeder.specs.declared.states.Progress.{Progress}
 use Rattle.feeder.proofs.Laws.{tick_arrived}
-use Rattle.feeder.proofs.Plans.{accepted_kept, by_plan}
+use Rattle.feeder.proofs.Plans.{accepted_kept}
 use Rattle.feeder.proofs.Reach.{follows}
 use Rattle.playback.specs.Frame.{Kept, pixel_of, Played}
-use Rattle.playback.specs.Gives.{exchange_of, takes_of}
-use Rattle.playback.specs.Ring.{Holds, Loaded}
+use Rattle.playback.specs.Gives.{exchange_of}
+use Rattle.fifo.specs.Frame.{takes_of}
+use Rattle.fifo.specs.Ring.{Holds, Loaded}
 use Rattle.playback.specs.declared.fifos.Fifo.{Fifo}
 use Rattle.playback.specs.Script.{Script}
 use Rattle.playback.specs.declared.pixels.Exchange.{Exchange}
 use Rattle.playback.specs.declared.pixels.Pixel.{Pixel}
-use Rattle.playback.proofs.Places.{holds_loaded}
-use Rattle.playback.proofs.Ticks.{arrived_by, dot_arrived, same_exchange}
+use Rattle.fifo.proofs.Ticks.{dot_arrived}
+use Rattle.fifo.proofs.Turns.{takes_outcome, at_most, holds_loaded}
+use Rattle.playback.proofs.Ticks.{arrived_by, same_exchange}
 
 -- what a FIFO's numbers are in a ring of m places
 pub record Placed (a : Fifo) (m : ℕ) : Type 0 where
@@ -63,26 +61,6 @@ placed a m size =
       head_inside = omega (arith, mod-lt (taken (plan_in c) (tick_in c)) some);
       tail_inside = omega (arith, mod-lt c.progress.arrived some);
     }
-
--- an outcome takes a dot just where the panel does
-takes_given : (u m : Bool) (n : ℕ) → takes_of (cond u (cond m (given.Missing n) (given.Dot n)) (given.Dark n)) ≡ cond u 1 0
-takes_given true true n = refl
-takes_given true false n = refl
-takes_given false m n = refl
-
-takes_outcome : (p : Numbers) (w : Bool) (t : ℕ) (f : Progress) → taken p (suc t) ≡ taken p t + takes_of (outcome (demand_of p) w t f)
-unfolding outcome
-takes_outcome p w t f =
-    let given_takes = takes_given (uses (demand_of p) t) (misses (demand_of p) t (after_answer (demand_of p) w f)) (requests (demand_of p) w t f) in
-    let same = (by_plan p).uses_is t in
-    ⊎_elim
-    (λ (hit : takes p t ≡ true). taken_when p t hit ∙ ap (λ n. taken p t + n) (sym (given_takes ∙ ap (λ b. cond b 1 0) (same ∙ hit))))
-    (λ (none : takes p t ≡ false). let z = given_takes ∙ ap (λ b. cond b 1 0) (same ∙ none) in omega (arith, taken_unless p t none, z))
-    (cases_Bool (takes p t))
-
-at_most : (b : Bool) (x : ℕ) → cond b x 0 ≤ x
-at_most true x = omega arith
-at_most false x = omega arith
 
 module _ (a : Fifo) (c₁ : Counts) (r r₁ : List ℕ) (script : Script) (brought : Bool) (o : Outcome) (n : ℕ)
     (size : length r ≡ (plan_in a.feeder.counts).capacity) (moved : Moved a.feeder.counts brought o c₁) (count : n ≡ cond brought (a.feeder.counts.progress.requested - a.feeder.counts.progress.arrived) 0) where
@@ -149,10 +127,6 @@ module _ (a : Fifo) (c₁ : Counts) (r r₁ : List ℕ) (script : Script) (broug
             ex ∙ ap (λ (e : Exchange). e.pixel) (same_exchange o _ _ hit) ∙ ap (λ q. (exchange_of q (script.dots 0 (taken p t))).pixel) on.outcome_is;
       }
 
--- an answer that the memory may give is never refused before the frame's end
-pub never_stuck : (c c₁ : Counts) (willing brought : Bool) (e : StepRefusal) → brought ≡ answers (demand_of (plan_in c)) willing c.progress → Steps c brought (Err e) c₁ → tick_in c < frame_ticks (plan_in c) → ⊥
-never_stuck c c₁ willing brought e answer h inside = omega (arith, (follows c c₁ willing brought (Err e) answer h).0)
-
 -- what the reading of a burst asks
 pub record Brings (f : Progress) (m at : ℕ) : Type 0 where
   pub order : f.arrived ≤ f.requested
@@ -163,11 +137,3 @@ pub record Brings (f : Progress) (m at : ℕ) : Type 0 where
 
 pub brings_from : (a : Fifo) (m : ℕ) → Placed a m → Brings a.feeder.counts.progress m a.tail
 brings_from a m p = record { order = p.order; few = p.few; place = p.tail; inside = p.tail_inside; fits = p.fits }
-
-pub not_over : (c now : Counts) → c ≡ now → false ≡ leb (frame_ticks (plan_in c)) (tick_in c) → tick_in now < frame_ticks (plan_in now)
-not_over c now e h = leb-false _ _ (sym (h ∙ ap (λ (k : Counts). leb (frame_ticks (plan_in k)) (tick_in k)) e))
-
-pub takes_few : (o : Outcome) → takes_of o ≤ 1
-takes_few (given.Dot n) = omega arith
-takes_few (given.Dark n) = omega arith
-takes_few (given.Missing n) = omega arith

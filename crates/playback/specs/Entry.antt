@@ -1,46 +1,18 @@
--- What the entries over lent numbers answer and leave behind. Assumes nothing: these are definitions.
-use Rattle.std.specs.Prelude.{◌≡◌, ℕ, zero, suc, ◌+◌, ◌-◌, ◌%◌, ◌<◌, ◌≤◌, min, Bool, true, false, not, List, [], ◌++◌, length, take, drop, None, Ok, Err, Result, ◌==◌, slice_index}
+-- What a tick over lent numbers answers, by types, and leaves behind. Assumes nothing: these are definitions.
+use Rattle.std.specs.Prelude.{◌≡◌, ℕ, ◌+◌, ◌%◌, ◌<◌, ◌≤◌, true, false, List, length, None, Ok, Err, Result, slice_index}
 use Rattle.timing.specs.Frame.{frame_ticks, taken}
 use Rattle.timing.specs.Row.{numbers_in}
 use Rattle.timing.specs.declared.numbers.Numbers.{Numbers}
 use Rattle.feeder.specs.Lent.{tick_at, progress_at, state_refusal}
 use Rattle.feeder.specs.Model.{after_tick, outcome}
 use Rattle.feeder.specs.Panel.{demand_of, in_time, Reached}
-use Rattle.feeder.specs.Step.{plan_in, Allows}
-use Rattle.feeder.specs.declared.counts.Counts.{Counts}
 use Rattle.feeder.specs.declared.states.Progress.{Progress}
-use Rattle.playback.specs.Gives.{exchange_of, out_of, is_missing}
-use Rattle.playback.specs.Refusal.{PlanOk, StateOk, may_bring, must_bring, Refuses, refusal}
-use Rattle.playback.specs.Ring.{filled, Holds, Continues}
-use Rattle.playback.specs.declared.outs.Out.{Out}
-use Rattle.playback.specs.declared.outs.Out.TheVariants.{Refused}
+use Rattle.fifo.specs.Entry.{brings}
+use Rattle.fifo.specs.Refusal.{Refuses, refusal}
+use Rattle.fifo.specs.Ring.{filled, Holds, Continues}
+use Rattle.fifo.specs.declared.refusals.Refusal.{Refusal}
+use Rattle.playback.specs.Gives.{exchange_of, is_missing}
 use Rattle.playback.specs.declared.pixels.Exchange.{Exchange}
-use Rattle.playback.specs.declared.refusals.Refusal.{Refusal}
-
--- counts of a good plan's state, with a ring that fits it
-pub record Opened (xs s : List ℕ) (m : ℕ) (c : Counts) : Type 0 where
-  pub plan_ok : PlanOk xs
-  pub state_ok : StateOk xs s
-  pub size : m ≡ (numbers_in xs).capacity
-  pub plan_is : c.scan.plan.numbers ≡ numbers_in xs
-  pub tick_is : c.scan.at.tick ≡ tick_at s
-  pub progress_is : c.progress ≡ progress_at s
-
--- and what is brought may be
-pub record Ready (xs s : List ℕ) (m n : ℕ) (c : Counts) : Type 0 where
-  pub opened : Opened xs s m c
-  pub whole : may_bring (progress_at s) n ≡ true
-  pub early : must_bring (numbers_in xs) (progress_at s) n ≡ false
-
--- the memory answers where it brings something
-abbrev pub brings : ℕ → Bool
-brings n = not (n == 0)
-
--- counts with a tick to come, in which the memory may bring n dots for a ring of m places
-pub record Going (c : Counts) (m n : ℕ) : Type 0 where
-  pub size : m ≡ (plan_in c).capacity
-  pub allowed : Allows c (brings n)
-  pub whole : 0 < n → c.progress.arrived + n ≡ c.progress.requested
 
 -- a tick of plan p with feeder f, ring r and what is brought leaves the numbers s₁ and the ring r₁
 pub record Ticked (p : Numbers) (t : ℕ) (f : Progress) (r b : List ℕ) (e : Exchange) (s₁ r₁ : List ℕ) : Type 0 where
@@ -63,28 +35,3 @@ pub record Ticked (p : Numbers) (t : ℕ) (f : Progress) (r b : List ℕ) (e : E
 abbrev pub TriesTick : (plan state ring brought : List ℕ) → Result Exchange Refusal → (state₁ ring₁ : List ℕ) → Type 0
 TriesTick xs s r b (Ok e) s₁ r₁ = (refusal xs s (length r) (length b) ≡ 0) × Ticked (numbers_in xs) (tick_at s) (progress_at s) r b e s₁ r₁
 TriesTick xs s r b (Err why) s₁ r₁ = Refuses xs s (length r) (length b) why × (s₁ ≡ s) × (r₁ ≡ r)
-
--- by the number of the refusal: nought is a tick, and any other leaves all as it was
-abbrev pub TickSays : ℕ → (plan state ring brought : List ℕ) → Out → (state₁ ring₁ : List ℕ) → Type 0
-TickSays zero xs s r b o s₁ r₁ = (e : Exchange) × (o ≡ out_of e) × Ticked (numbers_in xs) (tick_at s) (progress_at s) r b e s₁ r₁
-TickSays (suc n) xs s r b o s₁ r₁ = (o ≡ Refused (suc n)) × (s₁ ≡ s) × (r₁ ≡ r)
-
--- of the dots from dot k up to dot c those up to the ring's end
-unfoldable pub next_part : (m k c : ℕ) → List ℕ → List ℕ
-next_part m k c r = take (min (c - k) (m - k % m)) (drop (k % m) r)
-
--- a plan, a state and a ring that fit each other
-abbrev pub Fits : (plan state ring : List ℕ) → Type 0
-Fits xs s r = PlanOk xs × StateOk xs s × (length r ≡ (numbers_in xs).capacity)
-
--- what is handed back: a part of the ring, or none
-pub record NextSays (xs s r part : List ℕ) : Type 0 where
-  pub refused : (Fits xs s r → ⊥) → part ≡ []
-  pub next : Fits xs s r → part ≡ next_part (length r) (taken (numbers_in xs) (tick_at s)) (progress_at s).arrived r
-
--- the part up to the ring's end, and the one from its start that is next once those dots are taken, are together all dots from k up to c, in their order
-pub record TwoParts (m k c : ℕ) (r : List ℕ) : Type 0 where
-  pub both : List ℕ
-  pub parts : both ≡ next_part m k c r ++ next_part m (k + length (next_part m k c r)) c r
-  pub count : length both ≡ c - k
-  pub each : (dots : ℕ → ℕ) → Holds m k c r dots → (i : ℕ) → i < c - k → slice_index both i ≡ dots (k + i)

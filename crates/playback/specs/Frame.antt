@@ -12,13 +12,13 @@ use Rattle.feeder.specs.declared.lent.StateRefusal.TheVariants.{FrameOver}
 use Rattle.feeder.specs.declared.outcomes.Outcome.{Outcome}
 use Rattle.feeder.specs.declared.states.Progress.{Progress}
 use Rattle.playback.specs.Gives.{exchange_of}
-use Rattle.playback.specs.Ring.{Holds}
+use Rattle.fifo.specs.Ring.{Holds}
 use Rattle.playback.specs.Script.{Script, after_frames}
 use Rattle.playback.specs.declared.fifos.Fifo.{Fifo}
 use Rattle.playback.specs.declared.pixels.Pixel.{Pixel}
 use Rattle.playback.specs.declared.pixels.Pixel.TheVariants.{Dot, Dark, Missing}
-use Rattle.playback.specs.declared.refusals.Refusal.{Refusal}
-use Rattle.playback.specs.declared.refusals.Refusal.TheVariants.{Plan, State, Ring, Brought, Late}
+use Rattle.fifo.specs.declared.refusals.Refusal.{Refusal}
+use Rattle.fifo.specs.declared.refusals.Refusal.TheVariants.{Plan, State, Ring, Brought, Late}
 use Rattle.playback.specs.declared.underruns.Underrun.{Underrun}
 
 -- the ring holds the picture's dots that have arrived and were not taken

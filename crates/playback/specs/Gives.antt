@@ -2,8 +2,6 @@
 use Rattle.std.specs.Prelude.{ℕ, Bool, true, false}
 use Rattle.feeder.specs.declared.outcomes.Outcome.{Outcome}
 use Rattle.feeder.specs.declared.outcomes.Outcome.TheVariants as given
-use Rattle.playback.specs.declared.outs.Out.{Out}
-use Rattle.playback.specs.declared.outs.Out.TheVariants as out
 use Rattle.playback.specs.declared.pixels.Exchange.{Exchange}
 use Rattle.playback.specs.declared.pixels.Pixel.{Pixel}
 use Rattle.playback.specs.declared.pixels.Pixel.TheVariants.{Dot, Dark, Missing}
@@ -18,18 +16,3 @@ abbrev pub is_missing : Pixel → Bool
 is_missing (Dot x) = false
 is_missing Dark = false
 is_missing Missing = true
-
--- how many dots an outcome takes
-abbrev pub takes_of : Outcome → ℕ
-takes_of (given.Dot n) = 1
-takes_of (given.Dark n) = 0
-takes_of (given.Missing n) = 1
-
--- what is answered to whoever lent the numbers
-abbrev pub out_with : ℕ → Pixel → Out
-out_with n (Dot x) = out.Dot x n
-out_with n Dark = out.Dark n
-out_with n Missing = out.Missing n
-
-abbrev pub out_of : Exchange → Out
-out_of e = out_with e.requested e.pixel

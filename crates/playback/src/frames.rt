@@ -8,9 +8,9 @@ ghost use Rattle.playback.specs.Frame.{Kept, Served, Shown, pixel_in, underrun_i
 
 use super::fifos::Fifo;
 use super::memories::Memory;
-use super::refusals::Refusal;
 use super::screens::Screen;
 use super::underruns::Underrun;
+use fifo::Refusal;
 use timing::Plan;
 
 // One tick, shown: whether its dot is missing.

@@ -1,4 +1,4 @@
-// The FIFO as a ring: ticks over lent numbers, and frames with any memory and any screen.
+// Frames with any memory and any screen, and a tick over lent numbers whose refusal has its place.
 #![tactic(auto)]
 
 mod ends;
@@ -6,28 +6,25 @@ mod entries;
 mod fifos;
 mod frames;
 mod memories;
-mod outs;
 mod pictures;
 mod pixels;
-mod refusals;
 mod screens;
 mod underruns;
 
 pub use ends::{AtOnce, ByList, Latest};
-pub use entries::{next_dots, tick, try_tick};
+pub use entries::try_tick;
 pub use fifos::Fifo;
 pub use frames::play;
 pub use memories::Memory;
-pub use outs::Out;
 pub use pictures::{Numbered, Picture, Stored};
 pub use pixels::{Exchange, Pixel};
-pub use refusals::Refusal;
 pub use screens::Screen;
 pub use underruns::Underrun;
 
 #[cfg(test)]
 mod tests {
     use super::*;
+    use fifo::{Out, Refusal, next_dots, tick};
     use std::process::Abort;
     use std::test::Fail;
     use timing::Plan;

@@ -6,8 +6,8 @@ use Rattle.timing.specs.declared.refusals.PlanRefusal.{PlanRefusal}
 use Rattle.timing.specs.declared.refusals.PlanRefusal.TheVariants as row
 use Rattle.feeder.specs.declared.lent.StateRefusal.{StateRefusal}
 use Rattle.feeder.specs.declared.lent.StateRefusal.TheVariants.{TooShort, TooLong, FrameOver, PendingMark, UnderrunMark, ArrivedMore, PastFrame, NoRoom, WaitedLong, NothingPending, PastBurst, NotPending, WaitedIdle}
-use Rattle.playback.specs.declared.refusals.Refusal.{Refusal}
-use Rattle.playback.specs.declared.refusals.Refusal.TheVariants.{Plan, State, Ring, Brought, Late}
+use Rattle.fifo.specs.declared.refusals.Refusal.{Refusal}
+use Rattle.fifo.specs.declared.refusals.Refusal.TheVariants.{Plan, State, Ring, Brought, Late}
 use Rattle.session.specs.declared.whys.CountsWhy.TheVariants as counts
 use Rattle.session.specs.declared.whys.PlanWhy.{PlanWhy}
 use Rattle.session.specs.declared.whys.PlanWhy.TheVariants.{Length, TooSmall, TooLarge, NoRoomFor}

@@ -1,13 +1,13 @@
 // What is turned away: the number, the place, and what would have been right.
 ghost use Rattle.std.specs.Prelude.{◌≡◌, Some, slice_index};
-ghost use Rattle.playback.specs.Refusal.{refusal_number, refusal_place};
+ghost use Rattle.fifo.specs.Refusal.{refusal_number, refusal_place};
 ghost use Rattle.session.specs.Messages.{turned_text};
 ghost use Rattle.session.specs.Reasons.{plan_why, state_why, brought_why, lent_why};
 ghost use Rattle.timing.specs.Row.{place_of};
 
 use super::whys::{CountsWhy, PlanWhy, Why};
 use feeder::StateRefusal;
-use playback::Refusal;
+use fifo::Refusal;
 use std::fmt;
 use timing::{Numbers, Plan, PlanRefusal};
 

@@ -4,14 +4,15 @@ ghost use Rattle.feeder.specs.Panel.{in_time};
 ghost use Rattle.feeder.specs.Step.{plan_in, tick_in};
 ghost use Rattle.feeder.specs.Model.{begun};
 ghost use Rattle.playback.specs.Frame.{Plays};
-ghost use Rattle.playback.specs.Gives.{takes_of, is_missing};
-ghost use Rattle.playback.specs.Ring.{Loaded};
+ghost use Rattle.playback.specs.Gives.{is_missing};
+ghost use Rattle.fifo.specs.Frame.{takes_of};
+ghost use Rattle.fifo.specs.Ring.{Loaded};
 
 use super::super::memories::Memory;
 use super::super::pixels::{Exchange, Pixel};
-use super::super::refusals::Refusal;
 use super::Fifo;
 use feeder::{Feeder, Outcome, Progress, StateRefusal};
+use fifo::Refusal;
 use timing::Plan;
 
 // The place `by` places on in a ring.

@@ -2,11 +2,12 @@ use Rattle.std.proofs.Common.{◌≡◌, ℕ, ◌%◌, ◌<◌, Bool, not, eqb, 
 use Rattle.timing.proofs.Goods.{good_says}
 use Rattle.feeder.specs.Step.{Moved, Refused}
 use Rattle.feeder.specs.declared.states.Progress.{Progress}
-use Rattle.playback.specs.Entry.{brings}
+use Rattle.fifo.specs.Entry.{brings}
 use Rattle.playback.specs.Gives.{exchange_of}
-use Rattle.playback.specs.Ring.{filled}
-use Rattle.playback.proofs.Places.{length_filled}
-use Rattle.playback.proofs.Ticks.{few, ticked, never_refused}
+use Rattle.fifo.specs.Ring.{filled}
+use Rattle.fifo.proofs.Places.{length_filled}
+use Rattle.playback.proofs.Ticks.{ticked}
+use Rattle.fifo.proofs.Ticks.{few, never_refused}
 use Rattle.playback.proofs.entries.advance.Goals as goal
 
 pub nonzero_rem-next : goal.nonzero_rem-next

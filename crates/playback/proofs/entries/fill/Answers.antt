@@ -1,6 +1,6 @@
 use Rattle.std.proofs.Common.{◌∙◌, rules}
 use Rattle.std.proofs.lemmas.List.{take_rest}
-use Rattle.playback.proofs.Places.{filled_wrapped}
+use Rattle.fifo.proofs.Places.{filled_wrapped}
 use Rattle.playback.proofs.entries.fill.Goals as goal
 
 pub returns : goal.returns

@@ -1,4 +1,5 @@
-use Rattle.playback.proofs.Checks.{going, state_six, ready_says}
+use Rattle.playback.proofs.Ticks.{ready_says}
+use Rattle.fifo.proofs.Checks.{going, state_six}
 use Rattle.playback.proofs.entries.try_tick.Goals as goal
 
 pub advance-requires : goal.advance-requires

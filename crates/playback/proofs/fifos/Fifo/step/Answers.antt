@@ -10,8 +10,9 @@ use Rattle.feeder.specs.Step.{Moved}
 use Rattle.playback.specs.Gives.{is_missing}
 use Rattle.playback.specs.Script.{Script}
 use Rattle.playback.specs.declared.pixels.Exchange.{Exchange}
-use Rattle.playback.specs.Ring.{Loaded}
-use Rattle.playback.proofs.Turns.{placed, Brings, brings_from, not_over, takes_few, next_head, next_tail, count_few, played, never_stuck}
+use Rattle.fifo.specs.Ring.{Loaded}
+use Rattle.playback.proofs.Turns.{placed, Brings, brings_from, next_head, next_tail, count_few, played}
+use Rattle.fifo.proofs.Turns.{not_over, takes_few, never_stuck}
 use Rattle.playback.proofs.Ticks.{fed_pixel}
 use Rattle.playback.proofs.fifos.Fifo.step.Goals as goal
 

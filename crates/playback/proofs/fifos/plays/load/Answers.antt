@@ -1,6 +1,6 @@
 use Rattle.std.proofs.Common.{◌+◌, ap, ◌∙◌, rules}
 use Rattle.playback.specs.Script.{Script}
-use Rattle.playback.proofs.Places.{loaded}
+use Rattle.fifo.proofs.Places.{loaded}
 use Rattle.playback.proofs.fifos.plays.load.Goals as goal
 
 pub returns : goal.returns

@@ -1,5 +1,5 @@
 use Rattle.std.proofs.Common.{◌+◌, sym, mod-eq_of_lt, arith}
-use Rattle.playback.proofs.Places.{place_back}
+use Rattle.fifo.proofs.Places.{place_back}
 use Rattle.playback.proofs.fifos.plays.onward.Goals as goal
 
 pub returns-then-place-capacity : goal.returns-then-place-capacity
