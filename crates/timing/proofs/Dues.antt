@@ -1,12 +1,12 @@
 -- The next dot of a scan is taken in the tick in which it is due, and in no tick before.
-use Rattle.std.proofs.Common.{◌≡◌, ℕ, ◌+◌, ◌-◌, ◌*◌, ◌/◌, ◌%◌, ◌<◌, ◌≤◌, true, false, eqb, sym, ap, ◌∙◌, ap₂, ⊎_elim, mod-lt, mul_comm, add-mul, div-add-mod', le_of_mul-le-mul_right, add-one, arith}
+use Rattle.std.proofs.Common.{◌≡◌, ℕ, ◌+◌, ◌-◌, ◌*◌, ◌/◌, ◌%◌, ◌<◌, ◌≤◌, true, false, eqb, refl, sym, ap, ◌∙◌, ap₂, ⊎_elim, mod-lt, mul_comm, add-mul, div-add-mod', le_of_mul-le-mul_right, add-one, arith}
 use lib.Arith.{digits_div, digits_mod}
 use Rattle.std.proofs.lemmas.Nat.{mul-le}
 use Rattle.std.proofs.lemmas.Bool.{cases_Bool, both_ways, cases_lt, eq-eqb, ne_eqb}
 use Rattle.timing.specs.Frame.{line_ticks, frame_ticks, frame_dots, tick_of, index, takes, taken}
 use Rattle.timing.specs.Good.{good}
 use Rattle.timing.specs.declared.dots.Dot.{Dot}
-use Rattle.timing.specs.Scan.{Tracks, next_dot}
+use Rattle.timing.specs.Scan.{Tracks}
 use Rattle.timing.specs.declared.numbers.Numbers.{Numbers}
 use Rattle.timing.specs.declared.positions.Position.{Position}
 use Rattle.timing.proofs.Curves.{taken_when, taken_unless, curve}
@@ -44,10 +44,10 @@ due_takes p d t ok column count inside = ⊎_elim hit miss (cases_Bool (takes p 
 
 module _ (p : Numbers) (at : Position) (ok : good p ≡ true) (now : Tracks p at) (inside : at.tick < frame_ticks p) where
   pub takes_due : takes p at.tick ≡ eqb at.tick at.due
-  takes_due = due_takes p (next_dot at) at.tick ok now.column (sym now.counted ∙ now.placed) inside ∙ ap (eqb at.tick) (sym now.timed)
+  takes_due = due_takes p at.next at.tick ok now.column (sym now.counted ∙ now.placed) inside ∙ ap (eqb at.tick) (sym now.timed)
 
   -- a tick before the next dot is due leaves all but the tick
-  pub tracks_dark : (at.tick ≡ at.due → ⊥) → Tracks p (record { tick = at.tick + 1; count = at.count; x = at.x; y = at.y; due = at.due })
+  pub tracks_dark : (at.tick ≡ at.due → ⊥) → Tracks p (record { tick = at.tick + 1; count = at.count; next = at.next; due = at.due })
   tracks_dark not_due = record {
     inside = omega arith;
     counted = now.counted ∙ sym (taken_unless p at.tick (takes_due ∙ ne_eqb _ _ not_due)) ∙ ap (taken p) (sym (add-one at.tick));
@@ -60,7 +60,7 @@ module _ (p : Numbers) (at : Position) (ok : good p ≡ true) (now : Tracks p at
   taken_one due = ap (λ n. n + 1) now.counted ∙ sym (taken_when p at.tick (takes_due ∙ eq-eqb _ _ due)) ∙ ap (taken p) (sym (add-one at.tick))
 
   -- the tick in which it is due goes on to the dot beside it
-  pub tracks_beside : at.tick ≡ at.due → (at.x + 1 ≡ p.width → ⊥) → Tracks p (record { tick = at.tick + 1; count = at.count + 1; x = at.x + 1; y = at.y; due = at.due + 1 })
+  pub tracks_beside : at.tick ≡ at.due → (at.next.x + 1 ≡ p.width → ⊥) → Tracks p (record { tick = at.tick + 1; count = at.count + 1; next = record { x = at.next.x + 1; y = at.next.y }; due = at.due + 1 })
   unfolding index tick_of
   tracks_beside due beside = record {
     inside = omega arith;
@@ -71,19 +71,19 @@ module _ (p : Numbers) (at : Position) (ok : good p ≡ true) (now : Tracks p at
   }
 
   -- or, at a line's end, to the first of the next line
-  pub tracks_below : at.tick ≡ at.due → at.x + 1 ≡ p.width → Tracks p (record { tick = at.tick + 1; count = at.count + 1; x = 0; y = at.y + 1; due = at.due + 1 + p.hblank })
+  pub tracks_below : at.tick ≡ at.due → at.next.x + 1 ≡ p.width → Tracks p (record { tick = at.tick + 1; count = at.count + 1; next = record { x = 0; y = at.next.y + 1 }; due = at.due + 1 + p.hblank })
   unfolding index tick_of line_ticks
   tracks_below due end = record {
     inside = omega arith;
     counted = taken_one due;
-    placed = omega (arith, now.placed, add-mul at.y 1 p.width);
+    placed = omega (arith, now.placed, add-mul at.next.y 1 p.width);
     column = omega arith;
-    timed = omega (arith, now.timed, add-mul at.y 1 (line_ticks p));
+    timed = omega (arith, now.timed, add-mul at.next.y 1 (line_ticks p));
   }
 
 -- where a tick is not past the frame, what was taken before it gives its position
-pub tracks_at : (p : Numbers) (t count : ℕ) → good p ≡ true → t ≤ frame_ticks p → count ≡ taken p t → Tracks p (record { tick = t; count = count; x = count % p.width; y = count / p.width; due = p.vblank + count / p.width * line_ticks p + p.hblank + count % p.width })
-unfolding index tick_of
+pub tracks_at : (p : Numbers) (t count : ℕ) → good p ≡ true → t ≤ frame_ticks p → count ≡ taken p t → Tracks p (record { tick = t; count = count; next = record { x = count % p.width; y = count / p.width }; due = tick_of p (record { x = count % p.width; y = count / p.width }) })
+unfolding index
 tracks_at p t count ok inside counted =
     let some : 0 < p.width = (good_says p ok).width_least in
     record {
@@ -91,15 +91,33 @@ tracks_at p t count ok inside counted =
       counted = counted;
       placed = sym (div-add-mod' count p.width);
       column = mod-lt count some;
-      timed = omega arith;
+      timed = refl;
     }
 
 -- such a position's numbers are small
-pub tracks_small : (p : Numbers) (at : Position) → good p ≡ true → Tracks p at → (at.y ≤ 4096) × (at.y * line_ticks p ≤ 33554432) × (at.x < 4096) × (at.due < 34000000)
+pub record Near (p : Numbers) (at : Position) : Type 0 where
+  pub tick_most : at.tick ≤ 33619968
+  pub count_most : at.count ≤ 16777216
+  pub x_most : at.next.x < 4096
+  pub y_most : at.next.y ≤ 4096
+  pub lines_most : at.next.y * line_ticks p ≤ 33554432
+  pub due_most : at.due + p.hblank < 34000000
+
+pub near : (p : Numbers) (at : Position) → good p ≡ true → Tracks p at → Near p at
 unfolding index tick_of frame_dots
-tracks_small p at ok now =
+near p at ok now =
     let g = good_says p ok in
-    let dots : at.y * p.width ≤ p.height * p.width = omega (arith, now.placed, now.counted, (curve p).within at.tick, mul_comm p.width p.height) in
-    let lines : at.y ≤ p.height = le_of_mul-le-mul_right dots g.width_least in
-    let ticks : at.y * line_ticks p ≤ 33554432 = mul-le at.y (line_ticks p) 4096 8192 (omega (arith, g.height_most)) (small p ok).line_most in
-    (omega (arith, g.height_most), ticks, omega (arith, now.column, g.width_most), omega (arith, now.timed, now.column, g.width_most, g.hblank_most, g.vblank_most))
+    let s = small p ok in
+    let few : at.count ≤ p.width * p.height = omega (arith, now.counted, (curve p).within at.tick) in
+    let dots : at.next.y * p.width ≤ p.height * p.width = omega (arith, now.placed, few, mul_comm p.width p.height) in
+    let lines : at.next.y ≤ p.height = le_of_mul-le-mul_right dots g.width_least in
+    let y_most : at.next.y ≤ 4096 = omega (arith, g) in
+    let lines_most : at.next.y * line_ticks p ≤ 33554432 = mul-le at.next.y (line_ticks p) 4096 8192 y_most s.line_most in
+    record {
+      tick_most = omega (arith, now.inside, s.frame_most);
+      count_most = omega (arith, few, s.dots_most);
+      x_most = omega (arith, now.column, g);
+      y_most = y_most;
+      lines_most = lines_most;
+      due_most = omega (arith, now.timed, now.column, g);
+    }

@@ -1,8 +1,9 @@
 -- A row whose numbers are all in range is a good plan, and a good plan is such a row.
-use Rattle.std.proofs.Common.{◌≡◌, ℕ, zero, suc, ◌<◌, true, false, List, ⊎_elim, arith}
+use Rattle.std.proofs.Common.{◌≡◌, ℕ, zero, suc, ◌<◌, true, false, List, [], ◌∷◌, get_or, slice_index, ⊎_elim, arith}
 use Rattle.std.proofs.lemmas.Bool.{cases_Bool}
 use Rattle.timing.specs.Good.{good}
-use Rattle.timing.specs.Row.{numbers_in, InRange, FirstWrong}
+use Rattle.timing.specs.Row.{numbers_in, least, most, InRange, FirstWrong}
+use Rattle.timing.specs.declared.numbers.Numbers.{Numbers}
 use Rattle.timing.proofs.Goods.{good_from, good_says}
 
 pub good_row : (row : List ℕ) → ((k : ℕ) → k < 7 → InRange row k) → good (numbers_in row) ≡ true
@@ -28,6 +29,24 @@ good_row row in_range =
       latency_least = at_latency.0;
       latency_most = at_latency.1;
     })
+
+-- each number with its limits, as the check goes through them
+abbrev pub limits_of : Numbers → List (ℕ × ℕ × ℕ)
+limits_of p = (p.width, 1, 4096) ∷ (p.height, 1, 4096) ∷ (p.hblank, 0, 4096) ∷ (p.vblank, 0, 65536) ∷ (p.capacity, 0, 65536) ∷ (p.burst, 1, p.capacity) ∷ (p.latency, 1, 65536) ∷ []
+
+abbrev pub limits_at_place : List ℕ → ℕ → ℕ × ℕ × ℕ
+limits_at_place row k = (slice_index row k, least k, most row k)
+
+pub limits_at : (row : List ℕ) (p : Numbers) (k : ℕ) → p ≡ numbers_in row → k < 7 → get_or (limits_of p) k (0, 0, 0) ≡ limits_at_place row k
+unfolding numbers_in
+limits_at row p zero e h = rw e
+limits_at row p (suc zero) e h = rw e
+limits_at row p (suc (suc zero)) e h = rw e
+limits_at row p (suc (suc (suc zero))) e h = rw e
+limits_at row p (suc (suc (suc (suc zero)))) e h = rw e
+limits_at row p (suc (suc (suc (suc (suc zero))))) e h = rw e
+limits_at row p (suc (suc (suc (suc (suc (suc zero)))))) e h = rw e
+limits_at row p (suc (suc (suc (suc (suc (suc (suc k))))))) e h = absurd (omega arith)
 
 pub row_good : (row : List ℕ) → good (numbers_in row) ≡ true → (k : ℕ) → k < 7 → InRange row k
 unfolding numbers_in

@@ -83,6 +83,16 @@ mod tests {
     }
 
     #[test]
+    fn numbers_as_a_row(rt: HostRuntime) -> Result<(), Fail> {
+        let row = [3, 2, 1, 6, 8, 4, 5];
+        let numbers = Numbers::from(row);
+        assert_eq!(rt; numbers.vblank, 6);
+        assert_eq!(rt; Plan::new(&row)?.numbers(), numbers);
+        assert_eq!(rt; <[u32; 7]>::from(numbers), row);
+        Ok(())
+    }
+
+    #[test]
     fn a_frame_of_two_lines(rt: HostRuntime) -> Result<(), Fail> {
         // six dark ticks, then twice one dark tick and three dots
         let plan = Plan::new(&[3, 2, 1, 6, 6, 3, 2])?;

@@ -1,6 +1,6 @@
 // A plan that is good, by its type: made from a row of numbers, and asked which dot is taken in which tick.
-ghost use Rattle.std.specs.Prelude.{◌≡◌, true, false, length, MatchOption, MatchResult};
-ghost use Rattle.timing.specs.Frame.{line_ticks, frame_ticks, frame_dots, takes, taken, Curve, InFrame, TakenIn};
+ghost use Rattle.std.specs.Prelude.{◌≡◌, ◌<◌, true, false, length, MatchOption, MatchResult};
+ghost use Rattle.timing.specs.Frame.{line_ticks, frame_ticks, frame_dots, takes, taken, Curve, InFrame, tick_of, TakenIn};
 ghost use Rattle.timing.specs.Good.{good};
 ghost use Rattle.timing.specs.Row.{numbers_in, Refuses};
 
@@ -27,8 +27,6 @@ impl Plan {
 
     pub const MAX_LATENCY: u32 = 65_536;
 
-    const LEAST: [u32; 7] = [1, 1, 0, 0, 0, 1, 1];
-
     // From width, height, hblank, vblank, capacity, burst and latency, in this order.
     pub fn new(row: &[u32]) -> Result<Plan, PlanRefusal>
         ensures { MatchResult result (λ plan. (length row.now ≡ 7) × (plan.numbers ≡ numbers_in row.now)) (Refuses row.now) }
@@ -36,45 +34,31 @@ impl Plan {
         if row.len() > 7 {
             return Err(PlanRefusal::TooLong);
         }
-        let [width, height, hblank, vblank, capacity, burst, latency] = row else {
+        let Some(row) = row.as_array::<7>() else {
             return Err(PlanRefusal::TooShort { place: row.len() });
         };
-        let most = [
-            Plan::MAX_WIDTH,
-            Plan::MAX_HEIGHT,
-            Plan::MAX_HBLANK,
-            Plan::MAX_VBLANK,
-            Plan::MAX_CAPACITY,
-            *capacity,
-            Plan::MAX_LATENCY,
+        let numbers = Numbers::from(*row);
+        let limits = [
+            (numbers.width, 1, Plan::MAX_WIDTH),
+            (numbers.height, 1, Plan::MAX_HEIGHT),
+            (numbers.hblank, 0, Plan::MAX_HBLANK),
+            (numbers.vblank, 0, Plan::MAX_VBLANK),
+            (numbers.capacity, 0, Plan::MAX_CAPACITY),
+            (numbers.burst, 1, numbers.capacity),
+            (numbers.latency, 1, Plan::MAX_LATENCY),
         ];
-        for place in 0..7 {
-            if row[place] < Plan::LEAST[place] || row[place] > most[place] {
-                return Err(PlanRefusal::OutOfRange {
-                    place,
-                    least: Plan::LEAST[place],
-                    most: most[place],
-                });
+        for (place, &(number, least, most)) in limits.iter().enumerate() {
+            if !(least..=most).contains(&number) {
+                return Err(PlanRefusal::OutOfRange { place, least, most });
             }
         }
-        Ok(Plan {
-            numbers: Numbers {
-                width: *width,
-                height: *height,
-                hblank: *hblank,
-                vblank: *vblank,
-                capacity: *capacity,
-                burst: *burst,
-                latency: *latency,
-            },
-        })
+        Ok(Plan { numbers })
     }
 
     pub fn numbers(&self) -> Numbers
         ensures { result ≡ self.now.numbers }
     {
-        let Plan { numbers, .. } = *self;
-        numbers
+        self.numbers
     }
 
     // The ticks of a line: its blanking, then one for each dot.
@@ -104,10 +88,8 @@ impl Plan {
         ensures { result ≡ takes self.now.numbers tick }
     {
         let Numbers { hblank, vblank, .. } = self.numbers;
-        if tick < vblank || tick >= self.frame_ticks() {
-            return false;
-        }
-        (tick - vblank) % self.line_ticks() >= hblank
+        (vblank..self.frame_ticks()).contains(&tick)
+            && (tick - vblank) % self.line_ticks() >= hblank
     }
 
     // How many dots of the frame were taken before this tick.
@@ -146,16 +128,19 @@ impl Plan {
     pub fn tick_of(&self, dot: Dot) -> Option<u32>
         ensures { MatchOption result (InFrame self.now.numbers dot → ⊥) (λ tick. TakenIn self.now.numbers dot tick) }
     {
-        let Numbers {
-            width,
-            height,
-            hblank,
-            vblank,
-            ..
-        } = self.numbers;
-        if dot.x >= width || dot.y >= height {
+        if dot.x >= self.numbers.width || dot.y >= self.numbers.height {
             return None;
         }
-        Some(vblank + dot.y * self.line_ticks() + hblank + dot.x)
+        Some(self.due(dot))
+    }
+
+    // The same for the dot behind a frame's last too, whose tick is past the frame.
+    #[tactic(auto, unfolding(crate::specs::Frame::tick_of))]
+    pub(crate) fn due(&self, dot: Dot) -> u32
+        requires { tick_of self.now.numbers dot < 4294967296 }
+        ensures { result ≡ tick_of self.now.numbers dot }
+    {
+        let Numbers { hblank, vblank, .. } = self.numbers;
+        vblank + dot.y * self.line_ticks() + hblank + dot.x
     }
 }

@@ -13,7 +13,7 @@ pub enum PlanRefusal {
 }
 
 impl PlanRefusal {
-    // The number by which the refusal is known outside.
+    // The number by which the refusal is known outside, where numbers for refusals are a rule of the interface.
     pub fn number(&self) -> u64
         ensures { result ≡ number_of self.now }
     {
@@ -25,9 +25,8 @@ impl PlanRefusal {
         ensures { result ≡ place_of self.now }
     {
         match self {
-            PlanRefusal::TooShort { place } => *place,
+            PlanRefusal::TooShort { place } | PlanRefusal::OutOfRange { place, .. } => *place,
             PlanRefusal::TooLong => 7,
-            PlanRefusal::OutOfRange { place, .. } => *place,
         }
     }
 }

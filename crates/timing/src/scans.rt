@@ -1,80 +1,19 @@
 // The panel's way through a frame, tick by tick, with no division: which dot comes next, and when.
-ghost use Rattle.std.specs.Prelude.{◌≡◌, ◌+◌, ◌<◌, ◌≤◌, min, true, MatchOption, nat_le};
-ghost use Rattle.timing.specs.Frame.{frame_ticks, takes, taken, index, tick_of};
-ghost use Rattle.timing.specs.Good.{good};
-ghost use Rattle.timing.specs.Scan.{Tracks, next_dot};
+ghost use Rattle.std.specs.Prelude.{◌≡◌, ◌+◌, ◌<◌, min, MatchOption, nat_le};
+ghost use Rattle.timing.specs.Frame.{frame_ticks, takes, taken};
+ghost use Rattle.timing.specs.Scan.{Tracks};
 
-use super::numbers::Numbers;
+use super::dots::Dot;
 use super::plans::Plan;
 use super::positions::Position;
 
-#[derive(Clone, Copy)]
+#[derive(Clone, Copy, Debug, PartialEq, Eq)]
 pub struct Scan {
     plan: Plan,
     end: u32,
     at: Position,
     ghost ends: { end ≡ frame_ticks plan.numbers },
-    ghost inside: { at.tick ≤ frame_ticks plan.numbers },
-    ghost counted: { at.count ≡ taken plan.numbers at.tick },
-    ghost placed: { at.count ≡ index plan.numbers (next_dot at) },
-    ghost column: { at.x < plan.numbers.width },
-    ghost timed: { at.due ≡ tick_of plan.numbers (next_dot at) },
-}
-
-fn locate(plan: &Plan, tick: u32) -> Position
-    requires { tick ≤ frame_ticks plan.now.numbers }
-    ensures tracks { Tracks plan.now.numbers result }
-    ensures tick { result.tick ≡ tick }
-{
-    let Numbers {
-        width,
-        hblank,
-        vblank,
-        ..
-    } = plan.numbers();
-    let count = plan.taken(tick);
-    let x = count % width;
-    let y = count / width;
-    let due = vblank + y * plan.line_ticks() + hblank + x;
-    Position {
-        tick,
-        count,
-        x,
-        y,
-        due,
-    }
-}
-
-// The position one tick on.
-fn following(numbers: Numbers, at: Position) -> Position
-    requires good { good numbers ≡ true }
-    requires tracks { Tracks numbers at }
-    requires inside { at.tick < frame_ticks numbers }
-    ensures tracks { Tracks numbers result }
-    ensures tick { result.tick ≡ at.tick + 1 }
-{
-    let tick = at.tick + 1;
-    if at.tick != at.due {
-        return Position { tick, ..at };
-    }
-    let count = at.count + 1;
-    let due = at.due + 1;
-    if at.x + 1 == numbers.width {
-        return Position {
-            tick,
-            count,
-            x: 0,
-            y: at.y + 1,
-            due: due + numbers.hblank,
-        };
-    }
-    Position {
-        tick,
-        count,
-        x: at.x + 1,
-        y: at.y,
-        due,
-    }
+    ghost tracks: { Tracks plan.numbers at },
 }
 
 impl Scan {
@@ -86,7 +25,7 @@ impl Scan {
         Scan {
             plan,
             end: plan.frame_ticks(),
-            at: locate(&plan, 0),
+            at: Position::before(&plan, 0),
         }
     }
 
@@ -101,23 +40,21 @@ impl Scan {
         Some(Scan {
             plan,
             end,
-            at: locate(&plan, tick),
+            at: Position::before(&plan, tick),
         })
     }
 
     pub fn plan(&self) -> Plan
         ensures { result ≡ self.now.plan }
     {
-        let Scan { plan, .. } = *self;
-        plan
+        self.plan
     }
 
     // The tick that comes next.
     pub fn tick(&self) -> u32
         ensures { result ≡ self.now.at.tick }
     {
-        let Scan { at, .. } = *self;
-        at.tick
+        self.at.tick
     }
 
     // How many dots of the frame were taken before that tick.
@@ -141,13 +78,44 @@ impl Scan {
         self.at.tick < self.end && self.at.tick == self.at.due
     }
 
+    // The position one tick on.
+    fn following(&self) -> Position
+        requires { self.now.at.tick < frame_ticks self.now.plan.numbers }
+        ensures tracks { Tracks self.now.plan.numbers result }
+        ensures tick { result.tick ≡ self.now.at.tick + 1 }
+    {
+        let at = self.at;
+        let tick = at.tick + 1;
+        if at.tick != at.due {
+            return Position { tick, ..at };
+        }
+        let numbers = self.plan.numbers();
+        let Dot { x, y } = at.next;
+        let count = at.count + 1;
+        let due = at.due + 1;
+        if x + 1 == numbers.width {
+            return Position {
+                tick,
+                count,
+                next: Dot { x: 0, y: y + 1 },
+                due: due + numbers.hblank,
+            };
+        }
+        Position {
+            tick,
+            count,
+            next: Dot { x: x + 1, y },
+            due,
+        }
+    }
+
     // Goes through one tick; at the frame's end nothing changes.
     pub fn advance(&mut self)
         ensures plan { self.new.plan ≡ self.old.plan }
         ensures tick { self.new.at.tick ≡ min (self.old.at.tick + 1) (frame_ticks self.old.plan.numbers) }
     {
         if self.at.tick < self.end {
-            self.at = following(self.plan.numbers(), self.at);
+            self.at = self.following();
         }
     }
 }

@@ -7,7 +7,7 @@ use Rattle.timing.proofs.scans.Scan.takes.Goals as goal
 pub returns-then-self : goal.returns-then-self
 returns-then-self c =
     let s = c.args.self.now in
-    sym (takes_due s.plan.numbers s.at s.plan.ok (record { inside = s.inside; counted = s.counted; placed = s.placed; column = s.column; timed = s.timed }) (omega (arith, s.ends)))
+    sym (takes_due s.plan.numbers s.at s.plan.ok s.tracks (omega (arith, s.ends)))
 
 pub returns-else-self : goal.returns-else-self
 returns-else-self c =
