@@ -20,10 +20,10 @@ use Rattle.feeder.specs.declared.lent.StateRefusal.{StateRefusal}
 use Rattle.feeder.specs.declared.states.Progress.{Progress}
 use Rattle.feeder.proofs.Lents.{state_inside}
 use Rattle.feeder.proofs.Plans.{accepted_kept}
-use Rattle.fifo.specs.Entry.{Opened, Ready, Going, Ticked, TickSays, brings}
+use Rattle.fifo.specs.Entry.{Opened, Ready, Going, Exchanged, TickSays, brings}
 use Rattle.fifo.specs.Refusal.{PlanOk, StateOk, may_bring, must_bring, Misfits, Refuses, refusal, refusal_number}
-use Rattle.fifo.specs.declared.outs.Out.{Out}
 use Rattle.fifo.specs.declared.outs.Out.TheVariants.{Refused}
+use Rattle.fifo.specs.declared.pixels.Exchange.{Exchange}
 use Rattle.fifo.specs.declared.refusals.Refusal.{Refusal}
 use Rattle.fifo.specs.declared.refusals.Refusal.TheVariants.{Plan, State, Ring, Brought, Late}
 
@@ -71,7 +71,7 @@ refused_number xs s m n (Ring k) h = let seven = h.0.0 in let ok = h.0.1 in let 
 refused_number xs s m n (Brought k) h = let seven = h.0.0 in let ok = h.0.1 in let none = ap is_some h.1 in let size = h.2 in let wrong = h.3 in grind (arith, nat_tests)
 refused_number xs s m n (Late t) h = let seven = h.0.0 in let ok = h.0.1 in let none = ap is_some h.1 in let size = h.2 in let whole = h.3 in let due = h.4 in grind (arith, nat_tests)
 
-pub ready_number : (xs s : List ℕ) (m n : ℕ) (c : Counts) → Ready xs s m n c → refusal xs s m n ≡ 0
+ready_number : (xs s : List ℕ) (m n : ℕ) (c : Counts) → Ready xs s m n c → refusal xs s m n ≡ 0
 unfolding refusal
 ready_number xs s m n c r =
     let seven = r.opened.plan_ok.0 in
@@ -82,19 +82,20 @@ ready_number xs s m n c r =
     let early = r.early in
     grind (arith, nat_tests)
 
-pub refused_says : (xs s r b : List ℕ) (m n : ℕ) (e : Refusal) → refusal xs s m n ≡ refusal_number e → TickSays (refusal xs s m n) xs s r b (Refused (refusal_number e)) s r
-refused_says xs s r b m n e h = subst (λ k. TickSays k xs s r b (Refused (refusal_number e)) s r) (sym h) (by_number e) where
-  by_number : (e : Refusal) → TickSays (refusal_number e) xs s r b (Refused (refusal_number e)) s r
-  by_number (Plan x) = (refl, refl, refl)
-  by_number (State x) = (refl, refl, refl)
-  by_number (Ring x) = (refl, refl, refl)
-  by_number (Brought x) = (refl, refl, refl)
-  by_number (Late x) = (refl, refl, refl)
+pub refused_says : (xs s r b s₁ r₁ : List ℕ) (m n : ℕ) (e : Refusal) → s₁ ≡ s → r₁ ≡ r → refusal xs s m n ≡ refusal_number e → TickSays (refusal xs s m n) xs s r b (Refused (refusal_number e)) s₁ r₁
+refused_says xs s r b s₁ r₁ m n e es er h = subst (λ k. TickSays k xs s r b (Refused (refusal_number e)) s₁ r₁) (sym h) (by_number e) where
+  by_number : (e : Refusal) → TickSays (refusal_number e) xs s r b (Refused (refusal_number e)) s₁ r₁
+  by_number (Plan x) = (refl, es, er)
+  by_number (State x) = (refl, es, er)
+  by_number (Ring x) = (refl, es, er)
+  by_number (Brought x) = (refl, es, er)
+  by_number (Late x) = (refl, es, er)
 
-pub ready_says : (xs s r b : List ℕ) (m n : ℕ) (c : Counts) (o : Out) (s₁ r₁ : List ℕ) → Ready xs s m n c → Ticked (plan_in c) (tick_in c) c.progress r b o s₁ r₁ → TickSays (refusal xs s m n) xs s r b o s₁ r₁
-ready_says xs s r b m n c o s₁ r₁ ready ticked =
-    subst (λ k. TickSays k xs s r b o s₁ r₁) (sym (ready_number xs s m n c ready))
-    (subst₃ (λ (p : Numbers) t (f : Progress). Ticked p t f r b o s₁ r₁) ready.opened.plan_is ready.opened.tick_is ready.opened.progress_is ticked)
+pub ready_says : (xs s r b : List ℕ) (m n : ℕ) (c : Counts) (e : Exchange) (s₁ r₁ : List ℕ) → Ready xs s m n c → Exchanged (plan_in c) (tick_in c) c.progress r b e s₁ r₁ → (refusal xs s m n ≡ 0) × Exchanged (numbers_in xs) (tick_at s) (progress_at s) r b e s₁ r₁
+ready_says xs s r b m n c e s₁ r₁ ready ticked = (
+  ready_number xs s m n c ready,
+  subst₃ (λ (p : Numbers) t (f : Progress). Exchanged p t f r b e s₁ r₁) ready.opened.plan_is ready.opened.tick_is ready.opened.progress_is ticked,
+)
 
 pub state_six : (p : Numbers) (s : List ℕ) → state_refusal p s ≡ None → length s ≡ 6
 unfolding state_refusal

@@ -70,16 +70,6 @@ filled_straight m c a (x ∷ b) r full place fits =
     let rest = filled_straight m (c + 1) (a + 1) b (set r a x) (length-set r a x ∙ full) (λ some. next_place m c a here (omega arith)) (omega arith) in
     ap (λ n. filled m (c + 1) b (set r n x)) here ∙ rest ∙ one_more a b r x (omega arith)
 
--- the ring keeps holding a picture: what it held is not overwritten, and what is brought continues it
-pub holds_filled : (m from c : ℕ) (b r : List ℕ) (picture : ℕ → ℕ) → length r ≡ m → c + length b ≤ from + m → length b ≤ m → Holds m from c r picture → Continues b c picture → Holds m from (c + length b) (filled m c b r) picture
-holds_filled m from c b r picture full room few holds more k low high = ⊎_elim
-    (λ (old : k < c). filled_other m c b r (k % m) (λ i l e. apart m k (c + i) (omega arith) (omega arith) (sym e)) ∙ holds k low old)
-    (λ (new : c ≤ k).
-    let place : k ≡ c + (k - c) = omega arith in
-    let here = filled_here m c b r (k - c) full few (omega arith) in
-    ap (λ n. get_or (filled m c b r) (n % m) 0) place ∙ here ∙ more (k - c) (omega arith) ∙ ap picture (sym place))
-    (cases_lt k c)
-
 -- a part that wraps is written in two pieces, up to the ring's end and from its start
 pub filled_wrapped : (m c a n : ℕ) (b r p q : List ℕ) → length r ≡ m → a ≡ c % m → a < m → length b ≤ m → n ≡ min (length b) (m - a) → p ≡ take n b → q ≡ drop n b →
     put_mid 0 (length b - n - 0) (put_mid a (a + n - a) r p) q ≡ filled m c b r
@@ -122,3 +112,20 @@ loaded c a n count r p q picture place inside few split np nq first rest =
 -- a place past the ring's end, once round
 pub place_back : (m k : ℕ) → m ≤ k → k < m + m → k % m ≡ k - m
 place_back m k low high = let h : k - m < m = omega arith in mod-eq-sub-mod low ∙ mod-eq_of_lt h
+
+-- what is brought and continues a picture is loaded from it
+pub loaded_filled : (c : ℕ) (b r : List ℕ) (picture : ℕ → ℕ) → length b ≤ length r → Continues b c picture → Loaded picture c (length b) r (filled (length r) c b r)
+loaded_filled c b r picture few more = record {
+  size = length_filled (length r) c b r;
+  here = λ i h. filled_here (length r) c b r i refl few h ∙ more i h;
+  other = filled_other (length r) c b r;
+}
+
+-- a loaded ring goes on holding the picture
+pub holds_loaded : (from c n : ℕ) (r r₁ : List ℕ) (picture : ℕ → ℕ) → c + n ≤ from + length r → Loaded picture c n r r₁ → Holds (length r) from c r picture → Holds (length r) from (c + n) r₁ picture
+holds_loaded from c n r r₁ picture room l holds k low high = ⊎_elim
+    (λ (old : k < c). l.other (k % length r) (λ i h e. apart (length r) k (c + i) (omega arith) (omega arith) (sym e)) ∙ holds k low old)
+    (λ (new : c ≤ k).
+    let place : c + (k - c) ≡ k = omega arith in
+    ap (λ n. get_or r₁ (n % length r) 0) (sym place) ∙ l.here (k - c) (omega arith) ∙ ap picture place)
+    (cases_lt k c)

@@ -1,14 +1,14 @@
 -- A tick of the typed FIFO: its places go on with the feeder, and its ring goes on holding the memory's picture.
 use Rattle.std.proofs.Common.{◌≡◌, ℕ, suc, ◌+◌, ◌-◌, ◌%◌, ◌<◌, ◌≤◌, Bool, true, false, cond, leb, List, length, get_or, Ok, Err, sym, refl, ap, ◌∙◌, subst, ap₂, ⊎_elim, mod-lt, arith}
 use native.Mathlib.Nat.{mod-add-mod}
-use Rattle.std.proofs.lemmas.Bool.{cond_both, cases_lt, cases_Bool, leb-false}
+use Rattle.std.proofs.lemmas.Bool.{cases_Bool, leb-false}
 use Rattle.timing.specs.Frame.{takes, taken, frame_ticks}
 use Rattle.timing.specs.declared.numbers.Numbers.{Numbers}
 use Rattle.timing.specs.declared.plans.Plan.{Plan}
 use Rattle.timing.proofs.Curves.{taken_when, taken_unless}
 use Rattle.timing.proofs.Goods.{good_says, small}
-use Rattle.feeder.specs.Feed.{Follows, Fed}
-use Rattle.feeder.specs.Model.{Demand, answers, answered, waiting, after_answer, after_tick, uses, misses, outcome, requests}
+use Rattle.feeder.specs.Feed.{Follows}
+use Rattle.feeder.specs.Model.{answers, after_answer, uses, misses, outcome, requests}
 use Rattle.feeder.specs.Panel.{demand_of}
 use Rattle.feeder.specs.Step.{plan_in, tick_in, Moved, Steps}
 use Rattle.feeder.specs.declared.counts.Counts.{Counts}
@@ -19,13 +19,15 @@ use Rattle.feeder.specs.declared.states.Progress.{Progress}
 use Rattle.feeder.proofs.Laws.{tick_arrived}
 use Rattle.feeder.proofs.Plans.{accepted_kept, by_plan}
 use Rattle.feeder.proofs.Reach.{follows}
-use Rattle.fifo.specs.Frame.{pixel_of, takes_of, Given, Played}
+use Rattle.fifo.specs.Frame.{Kept, pixel_of, takes_of, Played}
+use Rattle.fifo.specs.Gives.{exchange_of}
 use Rattle.fifo.specs.Ring.{Holds, Loaded}
+use Rattle.fifo.specs.Script.{Script}
 use Rattle.fifo.specs.declared.fifos.Fifo.{Fifo}
-use Rattle.fifo.specs.declared.screens.Pixel.{Pixel}
-use Rattle.fifo.specs.declared.screens.Pixel.TheVariants.{Dot}
-use Rattle.fifo.proofs.Places.{apart}
-use Rattle.fifo.proofs.Ticks.{dot_arrived}
+use Rattle.fifo.specs.declared.pixels.Exchange.{Exchange}
+use Rattle.fifo.specs.declared.pixels.Pixel.{Pixel}
+use Rattle.fifo.proofs.Places.{holds_loaded}
+use Rattle.fifo.proofs.Ticks.{arrived_by, dot_arrived, same_exchange}
 
 -- what a FIFO's numbers are in a ring of m places
 pub record Placed (a : Fifo) (m : ℕ) : Type 0 where
@@ -78,38 +80,16 @@ takes_outcome p w t f =
     (λ (none : takes p t ≡ false). let z = given_takes ∙ ap (λ b. cond b 1 0) (same ∙ none) in omega (arith, taken_unless p t none, z))
     (cases_Bool (takes p t))
 
--- what has arrived after a tick
-arrived_by : (d : Demand) (w : Bool) (t : ℕ) (f : Progress) → answers d w f ≡ w → f.arrived ≤ f.requested → (after_tick d w t f).arrived ≡ f.arrived + cond w (f.requested - f.arrived) 0
-unfolding after_answer answered waiting
-arrived_by d w t f allowed order =
-    tick_arrived d w t f ∙ cond_both (answers d w f) (answered f) (waiting f) (λ (x : Progress). x.arrived ≡ f.arrived + cond w (f.requested - f.arrived) 0)
-    (λ hit. let on : w ≡ true = sym allowed ∙ hit in rw on (omega arith))
-    (λ none. let off : w ≡ false = sym allowed ∙ none in rw off (omega arith))
-
--- a loaded ring goes on holding the picture
-pub holds_loaded : (from c n : ℕ) (r r₁ : List ℕ) (picture : ℕ → ℕ) → c + n ≤ from + length r → Loaded picture c n r r₁ → Holds (length r) from c r picture → Holds (length r) from (c + n) r₁ picture
-holds_loaded from c n r r₁ picture room l holds k low high = ⊎_elim
-    (λ (old : k < c). l.other (k % length r) (λ i h e. apart (length r) k (c + i) (omega arith) (omega arith) (sym e)) ∙ holds k low old)
-    (λ (new : c ≤ k).
-    let place : c + (k - c) ≡ k = omega arith in
-    ap (λ n. get_or r₁ (n % length r) 0) (sym place) ∙ l.here (k - c) (omega arith) ∙ ap picture place)
-    (cases_lt k c)
-
-same_pixel : (o : Outcome) (x y : ℕ) → ((n : ℕ) → o ≡ given.Dot n → x ≡ y) → pixel_of o x ≡ pixel_of o y
-same_pixel (given.Dot n) x y h = ap Dot (h n refl)
-same_pixel (given.Dark n) x y h = refl
-same_pixel (given.Missing n) x y h = refl
-
 pub at_most : (b : Bool) (x : ℕ) → cond b x 0 ≤ x
 at_most true x = omega arith
 at_most false x = omega arith
 
-module _ (a : Fifo) (c₁ : Counts) (r r₁ : List ℕ) (picture : ℕ → ℕ) (brought : Bool) (o : Outcome) (n : ℕ)
+module _ (a : Fifo) (c₁ : Counts) (r r₁ : List ℕ) (script : Script) (brought : Bool) (o : Outcome) (n : ℕ)
     (size : length r ≡ (plan_in a.feeder.counts).capacity) (moved : Moved a.feeder.counts brought o c₁) (count : n ≡ cond brought (a.feeder.counts.progress.requested - a.feeder.counts.progress.arrived) 0) where
   now_arrived : c₁.progress.arrived ≡ a.feeder.counts.progress.arrived + n
   now_arrived =
       let c = a.feeder.counts in
-      ap (λ (f : Progress). f.arrived) moved.progress ∙ arrived_by (demand_of (plan_in c)) brought (tick_in c) c.progress moved.allowed.1 (placed a (length r) size).order
+      ap (λ (f : Progress). f.arrived) moved.progress ∙ tick_arrived _ _ _ _ ∙ arrived_by (demand_of (plan_in c)) brought c.progress moved.allowed.1 (placed a (length r) size).order
       ∙ ap (λ k. c.progress.arrived + k) (sym count)
 
   now_taken : taken (plan_in c₁) (tick_in c₁) ≡ taken (plan_in a.feeder.counts) (tick_in a.feeder.counts) + takes_of o
@@ -140,30 +120,34 @@ module _ (a : Fifo) (c₁ : Counts) (r r₁ : List ℕ) (picture : ℕ → ℕ) 
       let place = placed a (length r) size in
       omega (arith, count, at_most brought (a.feeder.counts.progress.requested - a.feeder.counts.progress.arrived), place.room, place.order)
 
-  pub played : (b : Fifo) (x : Pixel) (willing : Bool) → b.feeder.counts ≡ c₁ → brought ≡ answers (demand_of (plan_in a.feeder.counts)) willing a.feeder.counts.progress →
-      Loaded picture a.feeder.counts.progress.arrived n r r₁ → x ≡ pixel_of o (get_or r₁ a.head 0) → Played picture a r x b r₁
+  full : Loaded (script.dots 0) a.feeder.counts.progress.arrived n r r₁ → Kept a r (script.dots 0) →
+      Holds (length r) (taken (plan_in a.feeder.counts) (tick_in a.feeder.counts)) (a.feeder.counts.progress.arrived + n) r₁ (script.dots 0)
+  full l old = holds_loaded _ a.feeder.counts.progress.arrived n r r₁ (script.dots 0) arrived_room l old
+
+  pub played : (b : Fifo) (x : Pixel) (willing : Bool) → b.feeder.counts ≡ c₁ → script.may 0 (tick_in a.feeder.counts) willing ≡ true → brought ≡ answers (demand_of (plan_in a.feeder.counts)) willing a.feeder.counts.progress →
+      Loaded (script.dots 0) a.feeder.counts.progress.arrived n r r₁ → x ≡ (exchange_of o (get_or r₁ a.head 0)).pixel → Played script a r x b r₁
   unfolding demand_of
-  played b x willing same answer l ex =
+  played b x willing same said answer l ex =
       let c = a.feeder.counts in
       let p = plan_in c in
       let t = tick_in c in
       let place = placed a (length r) size in
       record {
         willing = willing;
+        said = said;
         outcome = o;
         follows = subst (λ (k : Counts). Follows c willing o k) (sym same) (follows c c₁ willing brought (Ok o) answer moved);
         size = l.size;
         kept = λ old.
-            let full = holds_loaded (taken p t) c.progress.arrived n r r₁ picture arrived_room l old in
-            let hit : (k : ℕ) → o ≡ given.Dot k → get_or r₁ a.head 0 ≡ picture (taken p t) = λ k e.
+            let hit : (k : ℕ) → o ≡ given.Dot k → get_or r₁ a.head 0 ≡ script.dots 0 (taken p t) = λ k e.
             let got = dot_arrived (demand_of p) brought t c.progress k (sym moved.outcome_is ∙ e) in
             let now = sym (tick_arrived (demand_of p) brought t c.progress) ∙ sym (ap (λ (f : Progress). f.arrived) moved.progress) ∙ now_arrived in
-            ap (λ j. get_or r₁ j 0) place.head ∙ full (taken p t) (omega arith) (omega (arith, now)) in (
+            ap (λ j. get_or r₁ j 0) place.head ∙ full l old (taken p t) (omega arith) (omega (arith, now)) in (
               (λ k low high.
                   let from : taken p t ≤ k = omega (arith, now_taken, ap (λ (q : Counts). taken (plan_in q) (tick_in q)) same) in
                   let to : k < c.progress.arrived + n = omega (arith, now_arrived, ap (λ (q : Counts). q.progress.arrived) same) in
-                  ap (λ m. get_or r₁ (k % m) 0) l.size ∙ full k from to),
-              ex ∙ same_pixel o _ _ hit,
+                  ap (λ m. get_or r₁ (k % m) 0) l.size ∙ full l old k from to),
+              ex ∙ ap (λ (e : Exchange). e.pixel) (same_exchange o _ _ hit),
             );
       }
 
@@ -189,8 +173,3 @@ pub takes_few : (o : Outcome) → takes_of o ≤ 1
 takes_few (given.Dot n) = omega arith
 takes_few (given.Dark n) = omega arith
 takes_few (given.Missing n) = omega arith
-
-pub given_pixel : (o : Outcome) (x : ℕ) → Fed o → Given (pixel_of o x)
-given_pixel (given.Dot n) x h = tt
-given_pixel (given.Dark n) x h = tt
-given_pixel (given.Missing n) x h = h

@@ -1,74 +1,71 @@
-// Memories over the dots of a frame: one that always takes as long as it may, one that answers at once, and one that is willing by a list.
-ghost use Rattle.std.specs.Prelude.{◌≡◌, ℕ, ◌+◌, ◌<◌, length, slice_index};
+// Memories over a picture: one that always takes as long as it may, one that answers at once, and one that is willing by a list.
+ghost use Rattle.std.specs.Prelude.{◌≡◌, ℕ, Bool, true, false};
+ghost use Rattle.feeder.specs.Feed.{willing_in};
+ghost use Rattle.fifo.specs.Script.{just};
 
 use super::memories::Memory;
+use super::pictures::Picture;
+use feeder::is_willing;
 
-fn dot_at(dots: &[u16], at: usize) -> u16
-    ensures { result ≡ slice_index dots.now at }
-{
-    if at < dots.len() { dots[at] } else { 0 }
-}
+// In which ticks of a frame a memory answers though it need not.
+pub trait Willing {
+    ghost willing: { Self → ℕ → Bool };
 
-// Writes the dots from dot `first` on; past the last, dots of 0.
-fn copy(dots: &[u16], first: u32, part: &mut [u16])
-    ensures { (i : ℕ) → i < length part.new → slice_index part.new i ≡ slice_index dots.now (first + i) }
-{
-    for i in 0..part.len() {
-        part[i] = dot_at(dots, first as usize + i);
-    }
+    fn is_willing(&self, tick: u32) -> bool
+        ensures { result ≡ willing self.now tick };
 }
 
 // Always takes as long as it may.
-#[derive(Clone, Copy)]
-pub struct Latest<'a> {
-    pub dots: &'a [u16],
-}
+#[derive(Clone, Copy, Debug)]
+pub struct Latest;
 
-impl<'a> Memory for Latest<'a> {
-    ghost dots = { λ m k. slice_index m.dots.now k };
+impl Willing for Latest {
+    ghost willing = { λ _ _. false };
 
-    fn willing(&mut self, _tick: u32) -> bool {
+    fn is_willing(&self, _tick: u32) -> bool {
         false
-    }
-
-    fn read(&mut self, first: u32, part: &mut [u16]) {
-        copy(self.dots, first, part);
     }
 }
 
 // Answers in the tick after the request.
-#[derive(Clone, Copy)]
-pub struct AtOnce<'a> {
-    pub dots: &'a [u16],
-}
+#[derive(Clone, Copy, Debug)]
+pub struct AtOnce;
 
-impl<'a> Memory for AtOnce<'a> {
-    ghost dots = { λ m k. slice_index m.dots.now k };
+impl Willing for AtOnce {
+    ghost willing = { λ _ _. true };
 
-    fn willing(&mut self, _tick: u32) -> bool {
+    fn is_willing(&self, _tick: u32) -> bool {
         true
     }
+}
 
-    fn read(&mut self, first: u32, part: &mut [u16]) {
-        copy(self.dots, first, part);
+// Is willing in the ticks of each frame that its list says, and in none past it.
+#[derive(Clone, Copy, Debug)]
+pub struct ByList<'a>(pub &'a [bool]);
+
+impl<'a> Willing for ByList<'a> {
+    ghost willing = { λ w. willing_in w.0.now };
+
+    fn is_willing(&self, tick: u32) -> bool {
+        is_willing(self.0, tick)
     }
 }
 
-// Is willing in the ticks that its list says, and in none past it.
-#[derive(Clone, Copy)]
-pub struct ByList<'a> {
-    pub dots: &'a [u16],
-    pub willing: &'a [bool],
+// A memory with a picture, the same in each frame.
+#[derive(Clone, Copy, Debug)]
+pub struct Answering<P, W> {
+    pub picture: P,
+    pub willing: W,
 }
 
-impl<'a> Memory for ByList<'a> {
-    ghost dots = { λ m k. slice_index m.dots.now k };
+impl<P: Picture, W: Willing> Memory for Answering<P, W> {
+    ghost script = { λ m. record { dots = λ f. P.Picture.dots m.picture; may = λ f t. just (W.Willing.willing m.willing t) } };
 
     fn willing(&mut self, tick: u32) -> bool {
-        self.willing.get(tick as usize).copied().unwrap_or(false)
+        self.willing.is_willing(tick)
     }
 
     fn read(&mut self, first: u32, part: &mut [u16]) {
-        copy(self.dots, first, part);
+        self.picture.copy(first, part);
     }
 }

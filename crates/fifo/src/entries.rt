@@ -4,27 +4,22 @@ ghost use Rattle.timing.specs.Frame.{taken};
 ghost use Rattle.timing.specs.Row.{numbers_in};
 ghost use Rattle.feeder.specs.Lent.{tick_at, progress_at};
 ghost use Rattle.feeder.specs.Step.{plan_in, tick_in};
-ghost use Rattle.fifo.specs.Entry.{Opened, Ready, Going, Ticked, TickSays, Fits, NextSays, TwoParts, out_of};
+ghost use Rattle.fifo.specs.Entry.{Opened, Ready, Going, Exchanged, TriesTick, TickSays, Fits, NextSays, TwoParts};
 ghost use Rattle.fifo.specs.Refusal.{Misfits, Refuses, refusal, may_bring, must_bring};
 
 use super::outs::Out;
+use super::pixels::Exchange;
 use super::refusals::Refusal;
 use super::rings::fill;
-use feeder::{Counts, Outcome, Progress};
+use feeder::{Counts, Progress};
 use timing::Plan;
 
 // A plan, a state and the length of a ring that fit each other.
 fn open(plan: &[u32], state: &[u32], length: usize) -> Result<Counts, Refusal>
     ensures { MatchResult result (Opened plan.now state.now length) (Misfits plan.now state.now length) }
 {
-    let plan = match Plan::new(plan) {
-        Ok(plan) => plan,
-        Err(refusal) => return Err(Refusal::Plan(refusal)),
-    };
-    let counts = match Counts::resume(plan, state) {
-        Ok(counts) => counts,
-        Err(refusal) => return Err(Refusal::State(refusal)),
-    };
+    let plan = Plan::new(plan)?;
+    let counts = Counts::resume(plan, state)?;
     if length != plan.numbers().capacity as usize {
         return Err(Refusal::Ring { length });
     }
@@ -54,10 +49,7 @@ fn is_late(counts: &Counts, brought: usize) -> bool
 pub fn accept(plan: &[u32], state: &[u32], length: usize, brought: usize) -> Result<Counts, Refusal>
     ensures { MatchResult result (Ready plan.now state.now length brought) (Refuses plan.now state.now length brought) }
 {
-    let counts = match open(plan, state, length) {
-        Ok(counts) => counts,
-        Err(refusal) => return Err(refusal),
-    };
+    let counts = open(plan, state, length)?;
     if !may_bring(counts.progress(), brought) {
         return Err(Refusal::Brought { count: brought });
     }
@@ -69,20 +61,10 @@ pub fn accept(plan: &[u32], state: &[u32], length: usize, brought: usize) -> Res
     Ok(counts)
 }
 
-fn out(outcome: Outcome, dot: u16) -> Out
-    ensures { result ≡ out_of outcome dot }
-{
-    match outcome {
-        Outcome::Dot { requested } => Out::Dot(dot, requested as u64),
-        Outcome::Dark { requested } => Out::Dark(requested as u64),
-        Outcome::Missing { requested } => Out::Missing(requested as u64),
-    }
-}
-
-fn advance(mut counts: Counts, state: &mut [u32], ring: &mut [u16], brought: &[u16]) -> Out
+fn advance(mut counts: Counts, state: &mut [u32], ring: &mut [u16], brought: &[u16]) -> Exchange
     requires six { length state.old ≡ 6 }
     requires going { Going counts (length ring.old) (length brought.now) }
-    ensures { Ticked (plan_in counts) (tick_in counts) counts.progress ring.old brought.now result state.new ring.new }
+    ensures { Exchanged (plan_in counts) (tick_in counts) counts.progress ring.old brought.now result state.new ring.new }
 {
     let arrived = counts.progress().arrived;
     let next = counts.taken() as usize % ring.len();
@@ -91,18 +73,31 @@ fn advance(mut counts: Counts, state: &mut [u32], ring: &mut [u16], brought: &[u
     match counts.step(!brought.is_empty()) {
         Ok(outcome) => {
             state.copy_from_slice(&counts.state());
-            out(outcome, dot)
+            Exchange::of(outcome, dot)
         }
         Err(_) => unreachable(),
     }
 }
 
 // One tick of the plan's frame: the state's six numbers and the ring go on by it. What is refused changes nothing.
+pub fn try_tick(
+    plan: &[u32],
+    state: &mut [u32],
+    ring: &mut [u16],
+    brought: &[u16],
+) -> Result<Exchange, Refusal>
+    ensures { TriesTick plan.now state.old ring.old brought.now result state.new ring.new }
+{
+    let counts = accept(plan, state, ring.len(), brought.len())?;
+    Ok(advance(counts, state, ring, brought))
+}
+
+// The same for a circuit's program, which gets the refusal's number alone.
 pub fn tick(plan: &[u32], state: &mut [u32], ring: &mut [u16], brought: &[u16]) -> Out
     ensures { TickSays (refusal plan.now state.old (length ring.old) (length brought.now)) plan.now state.old ring.old brought.now result state.new ring.new }
 {
-    match accept(plan, state, ring.len(), brought.len()) {
-        Ok(counts) => advance(counts, state, ring, brought),
+    match try_tick(plan, state, ring, brought) {
+        Ok(exchange) => Out::from(exchange),
         Err(refusal) => Out::Refused(refusal.number()),
     }
 }

@@ -7,17 +7,19 @@ mod fifos;
 mod loads;
 mod memories;
 mod outs;
+mod pictures;
+mod pixels;
 mod refusals;
 mod rings;
-mod screens;
 
-pub use ends::{AtOnce, ByList, Latest};
-pub use entries::{accept, next_dots, tick};
+pub use ends::{Answering, AtOnce, ByList, Latest, Willing};
+pub use entries::{accept, next_dots, tick, try_tick};
 pub use fifos::Fifo;
 pub use memories::Memory;
 pub use outs::Out;
+pub use pictures::{Numbered, Picture, Stored};
+pub use pixels::{Exchange, Pixel};
 pub use refusals::Refusal;
-pub use screens::Pixel;
 
 #[cfg(test)]
 mod tests {
@@ -118,6 +120,90 @@ mod tests {
         assert!(rt; state == [0, 3, 0, 1, 0, 0]);
     }
 
+    // A tick that is refused, and leaves the state and the ring as they were.
+    fn refuses_at(
+        rt: &impl Abort,
+        plan: &[u32],
+        state: &[u32; 6],
+        brought: &[u16],
+        number: u64,
+        place: usize,
+    ) -> Result<(), Fail> {
+        let mut lent = *state;
+        let mut ring = [7u16; 6];
+        match try_tick(plan, &mut lent, &mut ring, brought) {
+            Ok(_) => return Err("accepted".into()),
+            Err(refusal) => {
+                assert_eq!(rt; refusal.number(), number);
+                assert_eq!(rt; refusal.place(), place);
+            }
+        }
+        assert_eq!(rt;
+            tick(plan, &mut lent, &mut ring, brought),
+            Out::Refused(number)
+        );
+        assert!(rt; lent == *state);
+        assert!(rt; ring == [7u16; 6]);
+        Ok(())
+    }
+
+    #[test]
+    fn states_that_are_refused_and_where(rt: HostRuntime) -> Result<(), Fail> {
+        let wrong = [
+            ([22, 0, 0, 0, 0, 0], 0),
+            ([0, 1, 0, 2, 0, 0], 3),
+            ([0, 0, 0, 0, 0, 2], 5),
+            ([0, 0, 1, 0, 0, 0], 2),
+            ([21, 17, 17, 0, 0, 0], 1),
+            ([0, 7, 7, 0, 0, 0], 1),
+            ([0, 3, 0, 1, 2, 0], 4),
+            ([0, 3, 3, 1, 0, 0], 3),
+            ([0, 4, 0, 1, 0, 0], 1),
+            ([0, 3, 0, 0, 0, 0], 1),
+            ([0, 3, 3, 0, 1, 0], 4),
+        ];
+        for (state, place) in wrong.iter() {
+            refuses_at(&rt, &PLAN, state, &[], 2, *place)?;
+        }
+        Ok(())
+    }
+
+    #[test]
+    fn states_at_the_borders_are_accepted(rt: HostRuntime) {
+        let right = [
+            [21, 16, 16, 0, 0, 1],
+            [0, 6, 6, 0, 0, 0],
+            [7, 7, 6, 1, 0, 0],
+            [0, 3, 0, 1, 0, 0],
+            [0, 6, 3, 1, 0, 0],
+            [0, 0, 0, 0, 0, 0],
+        ];
+        for state in right.iter() {
+            let mut lent = *state;
+            assert!(rt; try_tick(&PLAN, &mut lent, &mut [0; 6], &[]).is_ok());
+            assert_eq!(rt; lent[0], state[0].wrapping_add(1));
+        }
+    }
+
+    #[test]
+    fn the_other_refusals_and_where(rt: HostRuntime) -> Result<(), Fail> {
+        let pending = [0, 3, 0, 1, 0, 0];
+        refuses_at(&rt, &PLAN[0..6], &pending, &[], 1, 6)?;
+        refuses_at(&rt, &[8, 2, 0, 6, 6, 3, 2, 0], &pending, &[], 1, 7)?;
+        refuses_at(&rt, &[8, 2, 0, 6, 6, 7, 2], &pending, &[], 1, 5)?;
+        refuses_at(&rt, &[8, 2, 0, 6, 5, 3, 2], &pending, &[], 3, 6)?;
+        refuses_at(&rt, &PLAN, &pending, &[1, 2], 4, 2)?;
+        refuses_at(&rt, &PLAN, &pending, &[1, 2, 3, 4], 4, 4)?;
+        refuses_at(&rt, &PLAN, &[0; 6], &[1, 2, 3], 4, 3)?;
+        refuses_at(&rt, &PLAN, &[9, 3, 0, 1, 1, 0], &[], 5, 9)?;
+        let mut few = [0, 0, 0, 0, 0];
+        let Err(refusal) = try_tick(&PLAN, &mut few, &mut [0; 6], &[]) else {
+            return Err("accepted".into());
+        };
+        assert_eq!(rt; refusal.place(), 5);
+        Ok(())
+    }
+
     // A frame of the plan above, whose dots are numbered from 10.
     fn play<M: Memory>(
         rt: &impl Abort,
@@ -151,35 +237,48 @@ mod tests {
             &rt,
             Plan::new(&PLAN)?,
             &mut [0; 6],
-            &mut Latest { dots: &dots },
+            &mut Answering {
+                picture: Stored { dots: &dots },
+                willing: Latest,
+            },
         )
     }
 
     #[test]
     fn a_willing_memory_saves_it(rt: HostRuntime) -> Result<(), Fail> {
         let plan = Plan::new(&[4, 1, 0, 1, 4, 4, 3])?;
-        let dots = [1, 2, 3, 4];
-        let mut ring = [0; 4];
-        let mut late = Fifo::start(plan);
-        let mut early = Fifo::start(plan);
-        assert_eq!(rt;
-            late.step(&mut ring, &mut Latest { dots: &dots })?,
-            Pixel::Dark
-        );
-        assert_eq!(rt;
-            late.step(&mut ring, &mut Latest { dots: &dots })?,
-            Pixel::Missing
-        );
-        assert_eq!(rt;
-            early.step(&mut ring, &mut AtOnce { dots: &dots })?,
-            Pixel::Dark
-        );
-        let willing = [false, true];
-        let mut memory = ByList {
-            dots: &dots,
-            willing: &willing,
+        let picture = Stored {
+            dots: &[1, 2, 3, 4],
         };
-        assert_eq!(rt; early.step(&mut ring, &mut memory)?, Pixel::Dot(1));
+        let mut ring = [0; 4];
+        let mut latest = Answering {
+            picture,
+            willing: Latest,
+        };
+        let mut late = Fifo::start(plan);
+        assert_eq!(rt; late.step(&mut ring, &mut latest)?, Pixel::Dark);
+        assert_eq!(rt; late.step(&mut ring, &mut latest)?, Pixel::Missing);
+        let mut at_once = Answering {
+            picture,
+            willing: AtOnce,
+        };
+        let mut by_list = Answering {
+            picture,
+            willing: ByList(&[false, true]),
+        };
+        let mut early = Fifo::start(plan);
+        assert_eq!(rt; early.step(&mut ring, &mut at_once)?, Pixel::Dark);
+        assert_eq!(rt; early.step(&mut ring, &mut by_list)?, Pixel::Dot(1));
+        let mut listed = Fifo::start(plan);
+        assert_eq!(rt; listed.step(&mut ring, &mut by_list)?, Pixel::Dark);
+        assert_eq!(rt; listed.step(&mut ring, &mut by_list)?, Pixel::Dot(1));
         Ok(())
+    }
+
+    #[test]
+    fn numbered_dots_begin_again_at_65536(rt: HostRuntime) {
+        let mut part = [0; 3];
+        Numbered.copy(65_535, &mut part);
+        assert!(rt; part == [65535, 0, 1]);
     }
 }

@@ -5,22 +5,8 @@ ghost use Rattle.fifo.specs.Ring.{Loaded};
 use super::memories::Memory;
 use feeder::Progress;
 
-// Lends the memory the part of the ring that comes next, up to the ring's end, and then the part from its start.
-fn load<M: Memory>(memory: &mut M, ring: &mut [u16], first: u32, at: usize, count: usize)
-    requires few { count ≤ length ring.old }
-    requires place { at ≡ first % length ring.old }
-    requires inside { at < length ring.old }
-    requires fits { first + count < 4294967296 }
-    ensures same { M.Memory.dots memory.new ≡ M.Memory.dots memory.old }
-    ensures loaded { Loaded (M.Memory.dots memory.old) first count ring.old ring.new }
-{
-    let straight = count.min(ring.len() - at);
-    memory.read(first, &mut ring[at..at + straight]);
-    memory.read(first + straight as u32, &mut ring[0..count - straight]);
-}
-
-// The memory's answer, if it gives one in this tick: how many dots it brings.
-pub fn bring<M: Memory>(
+// The memory's answer, if it gives one in this tick: how many dots it brings. It is lent the part of the ring that comes next, up to the ring's end, and then the part from its start.
+pub(crate) fn bring<M: Memory>(
     memory: &mut M,
     ring: &mut [u16],
     f: Progress,
@@ -33,13 +19,15 @@ pub fn bring<M: Memory>(
     requires inside { at < length ring.old }
     requires fits { f.requested < 4294967296 }
     ensures count { result ≡ (if brought then f.requested - f.arrived else 0) }
-    ensures same { M.Memory.dots memory.new ≡ M.Memory.dots memory.old }
-    ensures loaded { Loaded (M.Memory.dots memory.old) f.arrived result ring.old ring.new }
+    ensures same { M.Memory.script memory.new ≡ M.Memory.script memory.old }
+    ensures loaded { Loaded ((M.Memory.script memory.old).dots 0) f.arrived result ring.old ring.new }
 {
     if !brought {
         return 0;
     }
     let count = (f.requested - f.arrived) as usize;
-    load(memory, ring, f.arrived, at, count);
+    let straight = count.min(ring.len() - at);
+    memory.read(f.arrived, &mut ring[at..at + straight]);
+    memory.read(f.arrived + straight as u32, &mut ring[0..count - straight]);
     count
 }

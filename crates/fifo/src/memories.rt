@@ -1,17 +1,19 @@
 // The memory that the dots come from.
-ghost use Rattle.std.specs.Prelude.{◌≡◌, ℕ, ◌+◌, ◌<◌, length, slice_index};
+ghost use Rattle.std.specs.Prelude.{◌≡◌, ℕ, ◌+◌, ◌<◌, true, length, slice_index};
+ghost use Rattle.fifo.specs.Script.{Script};
 
 // A memory that answers when it likes within its time.
 pub trait Memory {
-    // dot k of the frame
-    ghost dots: { Self → ℕ → ℕ };
+    // its dots, and what it may say, in the frame that is played and in those after it
+    ghost script: { Self → Script };
 
-    // Whether it answers in this tick if it need not.
+    // Whether it answers in this tick of the frame if it need not.
     fn willing(&mut self, tick: u32) -> bool
-        ensures { dots self.new ≡ dots self.old };
+        ensures says { (script self.old).may 0 tick result ≡ true }
+        ensures same { script self.new ≡ script self.old };
 
     // Writes its dots from dot `first` of the frame on.
     fn read(&mut self, first: u32, part: &mut [u16])
-        ensures same { dots self.new ≡ dots self.old }
-        ensures read { (i : ℕ) → i < length part.new → slice_index part.new i ≡ dots self.old (first + i) };
+        ensures same { script self.new ≡ script self.old }
+        ensures read { (i : ℕ) → i < length part.new → slice_index part.new i ≡ (script self.old).dots 0 (first + i) };
 }

@@ -1,6 +1,7 @@
 // Why a tick over lent numbers is refused.
 ghost use Rattle.std.specs.Prelude.{◌≡◌};
 ghost use Rattle.fifo.specs.Refusal.{refusal_number, refusal_place};
+ghost use Rattle.fifo.specs.declared.refusals.Refusal.TheVariants.{Plan, State};
 
 use feeder::StateRefusal;
 use timing::PlanRefusal;
@@ -42,5 +43,21 @@ impl Refusal {
             Refusal::Brought { count } => *count,
             Refusal::Late { tick } => *tick as usize,
         }
+    }
+}
+
+impl From<PlanRefusal> for Refusal {
+    ghost from_gives = { λ wrong e. e ≡ Plan wrong };
+
+    fn from(wrong: PlanRefusal) -> Refusal {
+        Refusal::Plan(wrong)
+    }
+}
+
+impl From<StateRefusal> for Refusal {
+    ghost from_gives = { λ wrong e. e ≡ State wrong };
+
+    fn from(wrong: StateRefusal) -> Refusal {
+        Refusal::State(wrong)
     }
 }

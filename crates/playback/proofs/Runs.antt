@@ -6,8 +6,8 @@ use Rattle.std.specs.Bool.{then_some}
 use Rattle.timing.specs.Frame.{frame_ticks, taken}
 use Rattle.timing.specs.declared.numbers.Numbers.{Numbers}
 use Rattle.timing.specs.declared.plans.Plan.{Plan}
-use Rattle.feeder.specs.Feed.{Ran, FirstUnderrun}
-use Rattle.feeder.specs.Model.{begun, misses, after_answer, after_tick, after}
+use Rattle.feeder.specs.Feed.{Follows, Ran, FirstUnderrun}
+use Rattle.feeder.specs.Model.{begun, misses, after_answer, after_tick, after, outcome}
 use Rattle.feeder.specs.Model as model
 use Rattle.feeder.specs.Panel.{demand_of}
 use Rattle.feeder.specs.Step.{plan_in, tick_in}
@@ -16,11 +16,12 @@ use Rattle.feeder.specs.declared.outcomes.Outcome.TheVariants as given
 use Rattle.feeder.specs.declared.states.Progress.{Progress}
 use Rattle.feeder.proofs.Frames.{ran}
 use Rattle.feeder.proofs.Laws.{tick_underrun}
-use Rattle.playback.specs.Frame.{Kept, Stops, pixel_of, Played, Served, pixel_in, Shown, Frames, underrun_in, FirstOf, PlayedAll}
-use Rattle.playback.specs.Gives.{exchange_of, is_missing}
-use Rattle.playback.specs.Script.{Script, next_frame, after_frames}
-use Rattle.playback.specs.declared.fifos.Fifo.{Fifo}
-use Rattle.playback.specs.declared.pixels.Pixel.{Pixel}
+use Rattle.fifo.specs.Frame.{Kept, Stops, Played}
+use Rattle.playback.specs.Frame.{pixel_of, Served, pixel_in, Shown, Frames, underrun_in, FirstOf, PlayedAll}
+use Rattle.fifo.specs.Gives.{exchange_of, is_missing}
+use Rattle.fifo.specs.Script.{Script, willing, next_frame, after_frames}
+use Rattle.fifo.specs.declared.fifos.Fifo.{Fifo}
+use Rattle.fifo.specs.declared.pixels.Pixel.{Pixel}
 use Rattle.fifo.specs.declared.refusals.Refusal.{Refusal}
 use Rattle.fifo.specs.declared.refusals.Refusal.TheVariants.{Plan as Plan', State, Ring, Brought, Late}
 use Rattle.playback.specs.declared.underruns.Underrun.{Underrun}
@@ -39,19 +40,26 @@ missing_pixel (given.Dot n) x = refl
 missing_pixel (given.Dark n) x = refl
 missing_pixel (given.Missing n) x = refl
 
+-- what a memory says that may say one thing only
+said_is : (may : Bool → Bool) (said : Bool) → (may false ≡ true → may true ≡ false) → may said ≡ true → said ≡ may true
+said_is may true decided h = sym h
+said_is may false decided h = sym (decided h)
+
 pub served : {S : Type 0} (accepts : S → Pixel → S → Type 0) (script : Script) (a : Fifo) (r : List ℕ) (x : Pixel) (b : Fifo) (r₁ : List ℕ) (s s₁ : S) (missing : Bool) →
-    Played script a r x b r₁ → Kept a r (script.dots 0) → accepts s x s₁ → missing ≡ is_missing x → Served accepts script a s missing b r₁ s₁
+    ((f t : ℕ) → script.may f t false ≡ true → script.may f t true ≡ false) → Played script a r x b r₁ → Kept a r (script.dots 0) → accepts s x s₁ → missing ≡ is_missing x → Served accepts script a s missing b r₁ s₁
 unfolding pixel_of
-served accepts script a r x b r₁ s s₁ missing played old shown miss =
-    let f = played.follows in
+served accepts script a r x b r₁ s s₁ missing decided played old shown miss =
     let p = plan_in a.feeder.counts in
     let t = tick_in a.feeder.counts in
-    let same : missing ≡ model.is_missing played.gave =
-    miss ∙ ap is_missing (played.given old) ∙ missing_pixel _ (script.dots 0 (taken p t)) ∙ ap model.is_missing (sym f.outcome_is) in
+    let f = subst (λ w. Follows a.feeder.counts w played.outcome b.feeder.counts) (said_is (script.may 0 t) played.willing (decided 0 t) played.said) played.follows in
+    let gave : x ≡ (exchange_of (outcome (demand_of p) (willing script 0 t) t a.feeder.counts.progress) (script.dots 0 (taken p t))).pixel =
+    (played.kept old).1 ∙ ap (λ o. (exchange_of o (script.dots 0 (taken p t))).pixel) f.outcome_is in
+    let same : missing ≡ model.is_missing played.outcome =
+    miss ∙ ap is_missing (played.kept old).1 ∙ missing_pixel _ (script.dots 0 (taken p t)) in
     record {
-      ran = subst (λ m. Ran a.feeder.counts (script.willing 0 t) m b.feeder.counts) (sym same) (ran _ _ _ played.gave f);
-      kept = played.kept old;
-      shown = subst (λ y. accepts s y s₁) (played.given old) shown;
+      ran = subst (λ m. Ran a.feeder.counts (willing script 0 t) m b.feeder.counts) (sym same) (ran _ _ _ played.outcome f);
+      kept = (played.kept old).0;
+      shown = subst (λ y. accepts s y s₁) gave shown;
     }
 
 -- the first tick with a missing dot, among those before tick t
@@ -75,10 +83,10 @@ first_whole p w (Some k) h = h
 pub record Underway {S : Type 0} (accepts : S → Pixel → S → Type 0) (p : Numbers) (script : Script) (t : ℕ) (a : Fifo) (r : List ℕ) (from to : S) (first : Option ℕ) : Type 0 where
   pub plan : plan_in a.feeder.counts ≡ p
   pub tick : tick_in a.feeder.counts ≡ t
-  pub progress : a.feeder.counts.progress ≡ after (demand_of p) (script.willing 0) t
+  pub progress : a.feeder.counts.progress ≡ after (demand_of p) (willing script 0) t
   pub kept : Kept a r (script.dots 0)
-  pub shown : Shown accepts (pixel_in p (script.willing 0) (script.dots 0)) t from to
-  pub first_is : FirstBefore p (script.willing 0) t first
+  pub shown : Shown accepts (pixel_in p (willing script 0) (script.dots 0)) t from to
+  pub first_is : FirstBefore p (willing script 0) t first
 
 pub underway_start : {S : Type 0} (accepts : S → Pixel → S → Type 0) (p : Numbers) (script : Script) (a : Fifo) (r : List ℕ) (s : S) →
     plan_in a.feeder.counts ≡ p → tick_in a.feeder.counts ≡ 0 → a.feeder.counts.progress ≡ begun → Underway accepts p script 0 a r s s None
@@ -106,34 +114,34 @@ module _ {S : Type 0} (accepts : S → Pixel → S → Type 0) (p : Numbers) (sc
         progress = served.ran.progress ∙ (cc);
         kept = served.kept;
         shown = (s, u.shown, subst (λ x. accepts s x s₁) (cc) served.shown);
-        first_is = first_before p (script.willing 0) t first missing inside u.first_is (served.ran.missing_is ∙ (cc));
+        first_is = first_before p (willing script 0) t first missing inside u.first_is (served.ran.missing_is ∙ (cc));
       }
 
 pub underway_over : {S : Type 0} (accepts : S → Pixel → S → Type 0) (p q : Numbers) (script : Script) (t : ℕ) (a : Fifo) (r : List ℕ) (from to : S) (first : Option ℕ) →
-    Underway accepts p script t a r from to first → t ≡ frame_ticks p → p ≡ q → Shown accepts (pixel_in q (script.willing 0) (script.dots 0)) (frame_ticks q) from to × FirstUnderrun q (script.willing 0) first
+    Underway accepts p script t a r from to first → t ≡ frame_ticks p → p ≡ q → Shown accepts (pixel_in q (willing script 0) (script.dots 0)) (frame_ticks q) from to × FirstUnderrun q (willing script 0) first
 underway_over accepts p q script t a r from to first u end same =
-    subst (λ (n : Numbers). Shown accepts (pixel_in n (script.willing 0) (script.dots 0)) (frame_ticks n) from to × FirstUnderrun n (script.willing 0) first) same
-    (subst (λ n. Shown accepts (pixel_in p (script.willing 0) (script.dots 0)) n from to) end u.shown, first_whole p (script.willing 0) first (subst (λ n. FirstBefore p (script.willing 0) n first) end u.first_is))
+    subst (λ (n : Numbers). Shown accepts (pixel_in n (willing script 0) (script.dots 0)) (frame_ticks n) from to × FirstUnderrun n (willing script 0) first) same
+    (subst (λ n. Shown accepts (pixel_in p (willing script 0) (script.dots 0)) n from to) end u.shown, first_whole p (willing script 0) first (subst (λ n. FirstBefore p (willing script 0) n first) end u.first_is))
 
 -- frame n of a script is the first once n are over
-later : (script : Script) (n f : ℕ) → ((after_frames n script).dots f ≡ script.dots (n + f)) × ((after_frames n script).willing f ≡ script.willing (n + f))
+later : (script : Script) (n f : ℕ) → ((after_frames n script).dots f ≡ script.dots (n + f)) × (willing (after_frames n script) f ≡ willing script (n + f))
 unfolding after_frames
-later script zero f = let e : f ≡ 0 + f = omega arith in (ap script.dots e, ap script.willing e)
+later script zero f = let e : f ≡ 0 + f = omega arith in (ap script.dots e, ap (willing script) e)
 later script (suc n) f =
     let on = later script n (suc f) in
     let e : n + suc f ≡ suc n + f = omega arith in
-    (on.0 ∙ ap script.dots e, on.1 ∙ ap script.willing e)
+    (on.0 ∙ ap script.dots e, on.1 ∙ ap (willing script) e)
 
 pub frame_dots_at : (script : Script) (n : ℕ) → (after_frames n script).dots 0 ≡ script.dots n
 frame_dots_at script n = (later script n 0).0 ∙ ap script.dots (add-zero n)
 
-pub frame_willing_at : (script : Script) (n : ℕ) → (after_frames n script).willing 0 ≡ script.willing n
-frame_willing_at script n = (later script n 0).1 ∙ ap script.willing (add-zero n)
+pub frame_willing_at : (script : Script) (n : ℕ) → willing (after_frames n script) 0 ≡ willing script n
+frame_willing_at script n = (later script n 0).1 ∙ ap (willing script) (add-zero n)
 
-first_more : (p : Numbers) (script : Script) (n : ℕ) (first : Option Underrun) (tick : Option ℕ) → FirstOf p script n first → FirstUnderrun p (script.willing n) tick → FirstOf p script (suc n) (option_or first (underrun_in n tick))
+first_more : (p : Numbers) (script : Script) (n : ℕ) (first : Option Underrun) (tick : Option ℕ) → FirstOf p script n first → FirstUnderrun p (willing script n) tick → FirstOf p script (suc n) (option_or first (underrun_in n tick))
 first_more p script n (Some u) tick before here = (omega (arith, before.0), before.1, before.2)
 first_more p script n None (Some t) before here = (omega arith, before, here)
-first_more p script n None None before here = λ f h. ⊎_elim (before f) (λ (past : n ≤ f). let e : n ≡ f = omega arith in subst (λ k. FirstUnderrun p (script.willing k) None) e here) (cases_lt f n)
+first_more p script n None None before here = λ f h. ⊎_elim (before f) (λ (past : n ≤ f). let e : n ≡ f = omega arith in subst (λ k. FirstUnderrun p (willing script k) None) e here) (cases_lt f n)
 
 -- after n frames
 pub record Behind {S : Type 0} (accepts : S → Pixel → S → Type 0) (p : Numbers) (script now : Script) (n : ℕ) (from to : S) (first : Option Underrun) : Type 0 where
@@ -146,11 +154,11 @@ unfolding after_frames Frames
 behind_none accepts p script s = record { memory = refl; frames = refl; first_is = λ f h. absurd (omega arith) }
 
 pub behind_more : {S : Type 0} (accepts : S → Pixel → S → Type 0) (p : Numbers) (script now next : Script) (n : ℕ) (from s s₁ : S) (first : Option Underrun) (tick : Option ℕ) →
-    Behind accepts p script now n from s first → Shown accepts (pixel_in p (now.willing 0) (now.dots 0)) (frame_ticks p) s s₁ → FirstUnderrun p (now.willing 0) tick →
+    Behind accepts p script now n from s first → Shown accepts (pixel_in p (willing now 0) (now.dots 0)) (frame_ticks p) s s₁ → FirstUnderrun p (willing now 0) tick →
     next ≡ next_frame now → Behind accepts p script next (suc n) from s₁ (option_or first (underrun_in n tick))
 unfolding Frames after_frames
 behind_more accepts p script now next n from s s₁ first tick b shown here turned =
-    let w : now.willing 0 ≡ script.willing n = ap (λ (k : Script). k.willing 0) b.memory ∙ frame_willing_at script n in
+    let w : willing now 0 ≡ willing script n = ap (λ (k : Script). willing k 0) b.memory ∙ frame_willing_at script n in
     let dots : now.dots 0 ≡ script.dots n = ap (λ (k : Script). k.dots 0) b.memory ∙ frame_dots_at script n in
     record {
       memory = turned ∙ ap next_frame b.memory;

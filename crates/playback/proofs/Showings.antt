@@ -13,8 +13,8 @@ use Rattle.feeder.specs.declared.outcomes.Outcome.TheVariants as given
 use Rattle.feeder.proofs.Laws.{kept, never_missing, never_late, all_arrive}
 use Rattle.feeder.proofs.Plans.{sound, timely, by_plan}
 use Rattle.playback.specs.Frame.{pixel_of, pixel_in, InPlace, Complete}
-use Rattle.playback.specs.Gives.{exchange_of}
-use Rattle.playback.specs.declared.pixels.Pixel.TheVariants.{Dot, Dark, Missing}
+use Rattle.fifo.specs.Gives.{exchange_of}
+use Rattle.fifo.specs.declared.pixels.Pixel.TheVariants.{Dot, Dark, Missing}
 
 pixel_given : (u m : Bool) (n x : ℕ) → (exchange_of (cond u (cond m (given.Missing n) (given.Dot n)) (given.Dark n)) x).pixel ≡ cond u (cond m Missing (Dot x)) Dark
 pixel_given true true n x = refl

@@ -1,59 +1,33 @@
--- A typed FIFO, tick by tick, and frames from first tick to last. Assumes nothing: these are definitions.
+-- Frames from first tick to last. Assumes nothing: these are definitions.
 use Rattle.std.specs.Prelude.{◌≡◌, ℕ, zero, suc, ◌+◌, ◌<◌, ◌≤◌, Bool, false, ◌⊎◌, List, length, Some, None, Ok, Err, Option, Result, ◌≢◌}
 use Rattle.std.specs.Option.{option_map}
 use Rattle.timing.specs.Frame.{frame_ticks, frame_dots, takes, taken, index, InFrame, TakesDot, tick_of}
 use Rattle.timing.specs.declared.dots.Dot as place
 use Rattle.timing.specs.declared.numbers.Numbers.{Numbers}
-use Rattle.feeder.specs.Feed.{Follows, Ran, FirstUnderrun}
+use Rattle.feeder.specs.Feed.{Ran, FirstUnderrun}
 use Rattle.feeder.specs.Model.{after, outcome}
 use Rattle.feeder.specs.Panel.{demand_of}
 use Rattle.feeder.specs.Step.{plan_in, tick_in}
-use Rattle.feeder.specs.declared.lent.StateRefusal.TheVariants.{FrameOver}
-use Rattle.feeder.specs.declared.outcomes.Outcome.{Outcome}
 use Rattle.feeder.specs.declared.states.Progress.{Progress}
-use Rattle.playback.specs.Gives.{exchange_of}
-use Rattle.fifo.specs.Ring.{Holds}
-use Rattle.playback.specs.Script.{Script, after_frames}
-use Rattle.playback.specs.declared.fifos.Fifo.{Fifo}
-use Rattle.playback.specs.declared.pixels.Pixel.{Pixel}
-use Rattle.playback.specs.declared.pixels.Pixel.TheVariants.{Dot, Dark, Missing}
+use Rattle.fifo.specs.Gives.{exchange_of}
+use Rattle.fifo.specs.Frame.{Kept}
+use Rattle.fifo.specs.Script.{Script, willing, after_frames}
+use Rattle.fifo.specs.declared.fifos.Fifo.{Fifo}
+use Rattle.fifo.specs.declared.pixels.Pixel.{Pixel}
+use Rattle.fifo.specs.declared.pixels.Pixel.TheVariants.{Dot, Dark, Missing}
 use Rattle.fifo.specs.declared.refusals.Refusal.{Refusal}
-use Rattle.fifo.specs.declared.refusals.Refusal.TheVariants.{Plan, State, Ring, Brought, Late}
+use Rattle.fifo.specs.declared.refusals.Refusal.TheVariants.{Ring}
 use Rattle.playback.specs.declared.underruns.Underrun.{Underrun}
-
--- the ring holds the picture's dots that have arrived and were not taken
-abbrev pub Kept : Fifo → List ℕ → (ℕ → ℕ) → Type 0
-Kept a r picture = Holds (length r) (taken (plan_in a.feeder.counts) (tick_in a.feeder.counts)) a.feeder.counts.progress.arrived r picture
 
 -- what the panel gets in tick t, where the memory is willing or not
 unfoldable pub pixel_of : Numbers → Bool → (ℕ → ℕ) → ℕ → Progress → Pixel
 pixel_of p w picture t f = (exchange_of (outcome (demand_of p) w t f) (picture (taken p t))).pixel
 
--- a tick with a memory: the feeder follows the model by what the memory is willing to do, the ring goes on holding the picture, and what the panel gets is the picture's dot, dark or missing
-pub record Played (script : Script) (a : Fifo) (r : List ℕ) (x : Pixel) (b : Fifo) (r₁ : List ℕ) : Type 0 where
-  pub gave : Outcome
-  pub follows : Follows a.feeder.counts (script.willing 0 (tick_in a.feeder.counts)) gave b.feeder.counts
-  pub size : length r₁ ≡ length r
-  pub kept : Kept a r (script.dots 0) → Kept b r₁ (script.dots 0)
-  pub given : Kept a r (script.dots 0) → x ≡ pixel_of (plan_in a.feeder.counts) (script.willing 0 (tick_in a.feeder.counts)) (script.dots 0) (tick_in a.feeder.counts) a.feeder.counts.progress
-
--- or it is refused, and nothing changes
-abbrev pub Stops : Fifo → List ℕ → Refusal → Type 0
-Stops a r (Plan e) = ⊥
-Stops a r (State e) = (length r ≡ (plan_in a.feeder.counts).capacity) × (frame_ticks (plan_in a.feeder.counts) ≤ tick_in a.feeder.counts) × (e ≡ FrameOver)
-Stops a r (Ring k) = (length r ≢ (plan_in a.feeder.counts).capacity) × (k ≡ length r)
-Stops a r (Brought k) = ⊥
-Stops a r (Late t) = ⊥
-
-abbrev pub Plays : Script → Fifo → List ℕ → Result Pixel Refusal → Fifo → List ℕ → Type 0
-Plays script a r (Ok x) b r₁ = Played script a r x b r₁
-Plays script a r (Err e) b r₁ = (b ≡ a) × (r₁ ≡ r) × Stops a r e
-
--- the same, shown on a screen, where all that is said of the pixel is whether its dot is missing
+-- a tick with a memory, shown on a screen: the feeder follows the model by what the memory says, the ring goes on holding the picture, and the screen gets the picture's dot, dark or missing
 pub record Served {S : Type 0} (accepts : S → Pixel → S → Type 0) (script : Script) (a : Fifo) (s : S) (missing : Bool) (b : Fifo) (r₁ : List ℕ) (s₁ : S) : Type 0 where
-  pub ran : Ran a.feeder.counts (script.willing 0 (tick_in a.feeder.counts)) missing b.feeder.counts
+  pub ran : Ran a.feeder.counts (willing script 0 (tick_in a.feeder.counts)) missing b.feeder.counts
   pub kept : Kept b r₁ (script.dots 0)
-  pub shown : accepts s (pixel_of (plan_in a.feeder.counts) (script.willing 0 (tick_in a.feeder.counts)) (script.dots 0) (tick_in a.feeder.counts) a.feeder.counts.progress) s₁
+  pub shown : accepts s (pixel_of (plan_in a.feeder.counts) (willing script 0 (tick_in a.feeder.counts)) (script.dots 0) (tick_in a.feeder.counts) a.feeder.counts.progress) s₁
 
 -- what the panel gets in tick t of a frame, from a memory that holds a picture and is willing where w says
 unfoldable pub pixel_in : Numbers → (ℕ → Bool) → (ℕ → ℕ) → ℕ → Pixel
@@ -68,15 +42,15 @@ module _ {S : Type 0} (accepts : S → Pixel → S → Type 0) where
   -- one that gets n frames, one after the other, each from its first tick to its last
   unfoldable pub Frames : Numbers → Script → ℕ → S → S → Type 0
   Frames p script zero from to = to ≡ from
-  Frames p script (suc n) from to = (between : S) × Frames p script n from between × Shown (pixel_in p (script.willing n) (script.dots n)) (frame_ticks p) between to
+  Frames p script (suc n) from to = (between : S) × Frames p script n from between × Shown (pixel_in p (willing script n) (script.dots n)) (frame_ticks p) between to
 
 abbrev pub underrun_in : ℕ → Option ℕ → Option Underrun
 underrun_in f tick = option_map (λ t. record { frame = f; tick = t }) tick
 
 -- the first dot that is missing in n frames, if any
 abbrev pub FirstOf : Numbers → Script → ℕ → Option Underrun → Type 0
-FirstOf p script n None = (f : ℕ) → f < n → FirstUnderrun p (script.willing f) None
-FirstOf p script n (Some u) = (u.frame < n) × ((f : ℕ) → f < u.frame → FirstUnderrun p (script.willing f) None) × FirstUnderrun p (script.willing u.frame) (Some u.tick)
+FirstOf p script n None = (f : ℕ) → f < n → FirstUnderrun p (willing script f) None
+FirstOf p script n (Some u) = (u.frame < n) × ((f : ℕ) → f < u.frame → FirstUnderrun p (willing script f) None) × FirstUnderrun p (willing script u.frame) (Some u.tick)
 
 -- n frames from a memory on a screen; or it is refused by a ring of another length than the capacity, and nothing changes
 pub record PlayedAll {M S : Type 0} (script : M → Script) (accepts : S → Pixel → S → Type 0) (p : Numbers) (n : ℕ) (m : M) (r : List ℕ) (s : S) (first : Option Underrun) (m₁ : M) (s₁ : S) : Type 0 where

@@ -4,17 +4,18 @@ ghost use Rattle.timing.specs.Frame.{frame_ticks};
 ghost use Rattle.feeder.specs.Feed.{FirstUnderrun};
 ghost use Rattle.feeder.specs.Panel.{in_time};
 ghost use Rattle.feeder.specs.Step.{plan_in, tick_in};
-ghost use Rattle.playback.specs.Frame.{Kept, Served, Shown, pixel_in, underrun_in, PlaysAll, InPlace, Complete};
+ghost use Rattle.fifo.specs.Frame.{Kept};
+ghost use Rattle.fifo.specs.Script.{willing};
+ghost use Rattle.playback.specs.Frame.{Served, Shown, pixel_in, underrun_in, PlaysAll, InPlace, Complete};
 
-use super::fifos::Fifo;
-use super::memories::Memory;
 use super::screens::Screen;
+use super::scripted::Scripted;
 use super::underruns::Underrun;
-use fifo::Refusal;
+use fifo::{Fifo, Refusal};
 use timing::Plan;
 
 // One tick, shown: whether its dot is missing.
-fn serve<M: Memory, S: Screen>(
+fn serve<M: Scripted, S: Screen>(
     fifo: &mut Fifo,
     ring: &mut [u16],
     memory: &mut M,
@@ -36,7 +37,7 @@ fn serve<M: Memory, S: Screen>(
 }
 
 // A frame, and the first of its ticks in which a dot is missing.
-fn frame<M: Memory, S: Screen>(
+fn frame<M: Scripted, S: Screen>(
     plan: Plan,
     ring: &mut [u16],
     memory: &mut M,
@@ -44,8 +45,8 @@ fn frame<M: Memory, S: Screen>(
 ) -> Option<u32>
     requires { length ring.old ≡ plan.numbers.capacity }
     ensures same { M.Memory.script memory.new ≡ M.Memory.script memory.old }
-    ensures shown { Shown S.Screen.accepts (pixel_in plan.numbers ((M.Memory.script memory.old).willing 0) ((M.Memory.script memory.old).dots 0)) (frame_ticks plan.numbers) screen.old screen.new }
-    ensures first { FirstUnderrun plan.numbers ((M.Memory.script memory.old).willing 0) result }
+    ensures shown { Shown S.Screen.accepts (pixel_in plan.numbers (willing (M.Memory.script memory.old) 0) ((M.Memory.script memory.old).dots 0)) (frame_ticks plan.numbers) screen.old screen.new }
+    ensures first { FirstUnderrun plan.numbers (willing (M.Memory.script memory.old) 0) result }
 {
     let mut fifo = Fifo::start(plan);
     let mut first = None;
@@ -56,17 +57,8 @@ fn frame<M: Memory, S: Screen>(
     first
 }
 
-fn underrun_in(frame: u32, tick: Option<u32>) -> Option<Underrun>
-    ensures { result ≡ underrun_in frame tick }
-{
-    match tick {
-        Some(tick) => Some(Underrun { frame, tick }),
-        None => None,
-    }
-}
-
 // Frame after frame, each from a feeder that has requested nothing: the first dot that is missing, if any. Refused, with nothing shown, by a ring of another length than the capacity.
-pub fn play<M: Memory, S: Screen>(
+pub fn play<M: Scripted, S: Screen>(
     plan: Plan,
     ring: &mut [u16],
     memory: &mut M,
@@ -84,7 +76,10 @@ pub fn play<M: Memory, S: Screen>(
     for number in 0..frames {
         let missing = frame(plan, ring, memory, screen);
         memory.turn();
-        first = first.or(underrun_in(number, missing));
+        first = first.or(missing.map(move |tick| Underrun {
+            frame: number,
+            tick,
+        }));
     }
     Ok(first)
 }

@@ -1,7 +1,7 @@
 // The panel that the dots go to.
-ghost use Rattle.playback.specs.declared.pixels.Pixel.{Pixel};
+ghost use Rattle.fifo.specs.declared.pixels.Pixel.{Pixel};
 
-use super::pixels::Pixel;
+use fifo::Pixel;
 
 // A panel, by what a pixel does to it.
 pub trait Screen {

@@ -1,14 +1,14 @@
 // A FIFO from a frame's start, tick by tick, with no division.
-ghost use Rattle.std.specs.Prelude.{◌≡◌, ◌+◌, ◌%◌, ◌<◌, ◌≤◌, true, IfOk};
+ghost use Rattle.std.specs.Prelude.{◌≡◌, ◌+◌, ◌%◌, ◌<◌, ◌≤◌, true, IfOk, OnErr};
 ghost use Rattle.feeder.specs.Panel.{in_time};
 ghost use Rattle.feeder.specs.Step.{plan_in, tick_in};
 ghost use Rattle.feeder.specs.Model.{begun};
-ghost use Rattle.fifo.specs.Frame.{pixel_of, takes_of, Given, Plays};
+ghost use Rattle.fifo.specs.Frame.{takes_of, Given, Plays};
 
 use super::super::loads::bring;
 use super::super::memories::Memory;
+use super::super::pixels::{Exchange, Pixel};
 use super::super::refusals::Refusal;
-use super::super::screens::Pixel;
 use super::Fifo;
 use feeder::{Feeder, Outcome, StateRefusal};
 use timing::Plan;
@@ -38,16 +38,6 @@ fn taken_by(outcome: Outcome) -> usize
     }
 }
 
-fn pixel(outcome: Outcome, dot: u16) -> Pixel
-    ensures { result ≡ pixel_of outcome dot }
-{
-    match outcome {
-        Outcome::Dot { .. } => Pixel::Dot(dot),
-        Outcome::Dark { .. } => Pixel::Dark,
-        Outcome::Missing { .. } => Pixel::Missing,
-    }
-}
-
 impl Fifo {
     // At a frame's start, with nothing in its ring.
     pub fn start(plan: Plan) -> Fifo
@@ -71,9 +61,10 @@ impl Fifo {
 
     // One tick, in which the memory may answer, and must in the last tick that it has. Refused, with nothing changed, by a ring of another length than the capacity and past the frame's last tick.
     pub fn step<M: Memory>(&mut self, ring: &mut [u16], memory: &mut M) -> Result<Pixel, Refusal>
-        ensures same { M.Memory.dots memory.new ≡ M.Memory.dots memory.old }
+        ensures same { M.Memory.script memory.new ≡ M.Memory.script memory.old }
+        ensures unasked { OnErr result (memory.new ≡ memory.old) }
         ensures fed { in_time (plan_in self.old.feeder.counts) ≡ true → IfOk result Given }
-        ensures plays { Plays (M.Memory.dots memory.old) self.old ring.old result self.new ring.new }
+        ensures plays { Plays (M.Memory.script memory.old) self.old ring.old result self.new ring.new }
     {
         let counts = self.feeder.counts();
         let capacity = counts.plan().numbers().capacity as usize;
@@ -94,6 +85,6 @@ impl Fifo {
         self.tail = onward(self.tail, count, capacity);
         self.head = onward(self.head, taken_by(outcome), capacity);
         self.feeder = feeder;
-        Ok(pixel(outcome, dot))
+        Ok(Exchange::of(outcome, dot).pixel)
     }
 }

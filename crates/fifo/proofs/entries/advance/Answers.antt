@@ -2,7 +2,8 @@ use Rattle.std.proofs.Common.{◌≡◌, ℕ, ◌%◌, ◌<◌, Bool, not, eqb, 
 use Rattle.timing.proofs.Goods.{good_says}
 use Rattle.feeder.specs.Step.{Moved, Refused}
 use Rattle.feeder.specs.declared.states.Progress.{Progress}
-use Rattle.fifo.specs.Entry.{brings, out_of}
+use Rattle.fifo.specs.Entry.{brings}
+use Rattle.fifo.specs.Gives.{exchange_of}
 use Rattle.fifo.specs.Ring.{filled}
 use Rattle.fifo.proofs.Places.{length_filled}
 use Rattle.fifo.proofs.Ticks.{few, ticked, never_refused}
@@ -36,7 +37,7 @@ returns c =
     let moved = subst (λ w. Moved c.args.counts w c.in-Ok.outcome c.step.new.self) (flag c.is_empty.result (length c.args.brought.now) c.is_empty.ensures) c.in-Ok.ensures in
     let arrived : c.progress-arrived.result.arrived ≡ c.args.counts.progress.arrived = ap (λ (f : Progress). f.arrived) c.progress-arrived.ensures in
     ticked c.args.counts c.step.new.self c.args.ring.now c.args.brought.now c.in-Ok.outcome c.requires.going moved
-    c.out.result c.copy_from_slice.new.self c.fill.new.ring
+    c.of.result c.copy_from_slice.new.self c.fill.new.ring
     (c.fill.ensures ∙ ap (λ n. filled (length c.args.ring.now) n c.args.brought.now c.args.ring.now) arrived)
     (c.copy_from_slice.ensures.after ∙ c.state.ensures)
-    (c.out.ensures ∙ ap (λ n. out_of c.in-Ok.outcome (get_or c.fill.new.ring (n % length c.args.ring.now) 0)) c.taken.ensures)
+    (c.of.ensures ∙ ap (λ n. exchange_of c.in-Ok.outcome (get_or c.fill.new.ring (n % length c.args.ring.now) 0)) c.taken.ensures)

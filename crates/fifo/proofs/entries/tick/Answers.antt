@@ -1,11 +1,16 @@
-use Rattle.fifo.proofs.Checks.{going, state_six, refused_number, refused_says, ready_says}
+use Rattle.std.proofs.Common.{sym, subst, subst₂}
+use Rattle.timing.specs.Row.{numbers_in}
+use Rattle.feeder.specs.Lent.{tick_at, progress_at}
+use Rattle.fifo.specs.Entry.{TickSays, Ticked}
+use Rattle.fifo.specs.declared.outs.Out.{Out}
+use Rattle.fifo.proofs.Checks.{refused_number, refused_says}
+use Rattle.fifo.proofs.Ticks.{ticked_out}
 use Rattle.fifo.proofs.entries.tick.Goals as goal
 
-pub advance-requires : goal.advance-requires
-advance-requires c = record { six = state_six _ c.args.state.now c.in-Ok.ensures.opened.state_ok; going = going _ _ _ _ c.in-Ok.counts c.in-Ok.ensures }
-
 pub returns-in-Ok : goal.returns-in-Ok
-returns-in-Ok c = ready_says _ _ _ _ _ _ c.in-Ok.counts _ _ _ c.in-Ok.ensures c.advance.ensures
+returns-in-Ok c = rw (c.from.ensures, c.in-Ok.ensures.0) (ticked_out _ _ _ _ _ c.in-Ok.exchange _ _ c.in-Ok.ensures.1)
 
 pub returns-in-Err : goal.returns-in-Err
-returns-in-Err c = rw c.number.ensures (refused_says _ _ _ _ _ _ c.in-Err.refusal (refused_number _ _ _ _ c.in-Err.refusal c.in-Err.ensures))
+returns-in-Err c =
+    let wrong = c.in-Err.ensures in
+    rw c.number.ensures (refused_says _ _ _ _ _ _ _ _ c.in-Err.refusal wrong.1 wrong.2 (refused_number _ _ _ _ c.in-Err.refusal wrong.0))

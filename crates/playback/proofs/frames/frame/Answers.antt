@@ -4,8 +4,9 @@ use Rattle.timing.specs.declared.numbers.Numbers.{Numbers}
 use Rattle.timing.specs.declared.plans.Plan.{Plan}
 use Rattle.std.specs.Option.{option_or}
 use Rattle.feeder.specs.Step.{plan_in}
-use Rattle.playback.specs.Frame.{Kept, Served}
-use Rattle.playback.specs.Script.{Script}
+use Rattle.fifo.specs.Frame.{Kept}
+use Rattle.playback.specs.Frame.{Served}
+use Rattle.fifo.specs.Script.{Script}
 use Rattle.playback.proofs.Runs.{Underway, underway_start, underway_more, underway_over}
 use Rattle.playback.proofs.frames.frame.Goals as goal
 

@@ -1,7 +1,8 @@
-use Rattle.std.proofs.Common.{◌≡◌, length, Option, sym, refl, ap, ◌∙◌, subst₂, add-one, arith}
+use Rattle.std.proofs.Common.{◌≡◌, length, Option, sym, refl, ap, ◌∙◌, subst₂, add-one, arith, rules}
 use Rattle.std.specs.Option.{option_or}
 use Rattle.timing.specs.declared.numbers.Numbers.{Numbers}
-use Rattle.playback.specs.Script.{next_frame}
+use Rattle.fifo.specs.Script.{next_frame}
+use Rattle.playback.specs.Frame.{underrun_in}
 use Rattle.playback.specs.declared.underruns.Underrun.{Underrun}
 use Rattle.playback.proofs.Runs.{Behind, behind_none, behind_more, behind_all}
 use Rattle.playback.proofs.Showings.{in_place, complete}
@@ -24,7 +25,8 @@ loop-number-preserved g c =
     let turned = c.turn.ensures ∙ ap next_frame c.frame-missing.ensures.same in
     let more = behind_more g.S.Screen.accepts c.args.plan.numbers (s c.args.memory.now) (s c.loop-number.memory) (s c.turn.new.self) c.loop-number.number c.args.screen.now _ c.frame-missing.new.screen c.loop-number.first c.frame-missing.result
     b c.frame-missing.ensures.shown c.frame-missing.ensures.first turned in
-    let first = c.or-first.ensures ∙ ap (option_or c.loop-number.first) c.underrun_in.ensures in
+    let named : c.map.result ≡ underrun_in c.loop-number.number c.frame-missing.result = search rules in
+    let first = c.or-first.ensures ∙ ap (option_or c.loop-number.first) named in
     subst₂ (λ n (f : Option Underrun). Behind g.S.Screen.accepts c.args.plan.numbers (s c.args.memory.now) (s c.turn.new.self) n c.args.screen.now c.frame-missing.new.screen f) (sym (add-one c.loop-number.number)) (sym first) more
 
 pub returns : goal.returns

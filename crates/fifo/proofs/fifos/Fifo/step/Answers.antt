@@ -1,4 +1,4 @@
-use Rattle.std.proofs.Common.{◌≡◌, ℕ, ◌+◌, ◌-◌, ◌%◌, cond, length, sym, refl, ap, ◌∙◌, subst, ap₂, arith}
+use Rattle.std.proofs.Common.{◌≡◌, ℕ, ◌+◌, ◌-◌, ◌%◌, true, cond, length, sym, refl, ap, ◌∙◌, subst, ap₂, arith}
 use Rattle.timing.specs.declared.numbers.Numbers.{Numbers}
 use Rattle.timing.specs.declared.plans.Plan.{Plan}
 use Rattle.feeder.specs.Step.{plan_in}
@@ -7,9 +7,12 @@ use Rattle.feeder.specs.declared.states.Progress.{Progress}
 use Rattle.feeder.specs.Model.{answers}
 use Rattle.feeder.specs.Panel.{demand_of}
 use Rattle.feeder.specs.Step.{Moved}
-use Rattle.fifo.specs.Frame.{Given}
+use Rattle.fifo.specs.Gives.{is_missing}
+use Rattle.fifo.specs.Script.{Script}
+use Rattle.fifo.specs.declared.pixels.Exchange.{Exchange}
 use Rattle.fifo.specs.Ring.{Loaded}
-use Rattle.fifo.proofs.Turns.{placed, Brings, brings_from, not_over, takes_few, next_head, next_tail, count_few, played, never_stuck, given_pixel}
+use Rattle.fifo.proofs.Ticks.{fed_pixel}
+use Rattle.fifo.proofs.Turns.{placed, Brings, brings_from, not_over, takes_few, next_head, next_tail, count_few, played, never_stuck}
 use Rattle.fifo.proofs.fifos.Fifo.step.Goals as goal
 
 -- the ring has as many places as the plan's capacity
@@ -43,7 +46,7 @@ onward-self-requires g c =
     let f : c.progress.result ≡ c.args.self.now.feeder.counts.progress = c.progress.ensures ∙ ap (λ (k : Counts). k.progress) c.counts-counts.ensures in
     let count = c.bring-count.ensures.count ∙ ap (λ (k : Progress). cond c.answers-brought.result (k.requested - k.arrived) 0) f in
     let moved = subst (λ (k : Counts). Moved k c.answers-brought.result c.in-Ok.outcome c.step.new.self.counts) refl c.in-Ok.ensures.steps in
-    record { inside = omega (arith, place.tail_inside); near = omega (arith, count_few c.args.self.now _ c.args.ring.now c.args.ring.now (λ n. n) _ _ _ size moved count); small = omega (arith, place.small) }
+    record { inside = omega (arith, place.tail_inside); near = omega (arith, count_few c.args.self.now _ c.args.ring.now c.args.ring.now (g.M.Memory.script c.args.memory.now) _ _ _ size moved count); small = omega (arith, place.small) }
 
 pub onward-self-requires-2 : goal.onward-self-requires-2
 onward-self-requires-2 g c =
@@ -62,8 +65,8 @@ invariant_of-self g c =
     let moved = subst (λ (k : Counts). Moved k c.answers-brought.result c.in-Ok.outcome c.step.new.self.counts) refl c.in-Ok.ensures.steps in
     let head = c.onward-self-2.ensures ∙ ap₂ (λ k m. (c.args.self.now.head + k) % m) c.taken_by.ensures capacity in
     let tail = c.onward-self.ensures ∙ ap (λ m. (c.args.self.now.tail + c.bring-count.result) % m) capacity in record {
-      headed = next_head c.args.self.now _ c.args.ring.now c.args.ring.now (λ n. n) _ _ _ size moved count _ head;
-      tailed = next_tail c.args.self.now _ c.args.ring.now c.args.ring.now (λ n. n) _ _ _ size moved count _ tail;
+      headed = next_head c.args.self.now _ c.args.ring.now c.args.ring.now (g.M.Memory.script c.args.memory.now) _ _ _ size moved count _ head;
+      tailed = next_tail c.args.self.now _ c.args.ring.now c.args.ring.now (g.M.Memory.script c.args.memory.now) _ _ _ size moved count _ tail;
     }
 
 pub returns : goal.returns
@@ -73,13 +76,16 @@ returns g c =
     let f : c.progress.result ≡ c.args.self.now.feeder.counts.progress = c.progress.ensures ∙ ap (λ (k : Counts). k.progress) c.counts-counts.ensures in
     let count = c.bring-count.ensures.count ∙ ap (λ (k : Progress). cond c.answers-brought.result (k.requested - k.arrived) 0) f in
     let moved = subst (λ (k : Counts). Moved k c.answers-brought.result c.in-Ok.outcome c.step.new.self.counts) refl c.in-Ok.ensures.steps in
-    let dots = g.M.Memory.dots in
+    let script = g.M.Memory.script in
+    let tick = c.tick.ensures ∙ ap (λ (k : Counts). k.scan.at.tick) c.counts-counts.ensures in
+    let said = subst (λ t. (script c.args.memory.now).may 0 t c.willing.result ≡ true) tick c.willing.ensures.says in
     let answer = c.answers-brought.ensures ∙ ap (λ (k : Counts). answers (demand_of (plan_in k)) c.willing.result k.progress) c.counts-counts.ensures in
-    let loaded = subst (λ (k : Progress). Loaded (dots c.willing.new.self) k.arrived c.bring-count.result c.args.ring.now c.bring-count.new.ring) f c.bring-count.ensures.loaded in
+    let loaded = subst (λ (k : Progress). Loaded ((script c.willing.new.self).dots 0) k.arrived c.bring-count.result c.args.ring.now c.bring-count.new.ring) f c.bring-count.ensures.loaded in
     record {
-      same = c.bring-count.ensures.same ∙ c.willing.ensures;
-      fed = λ fast. subst Given (sym c.pixel.ensures) (given_pixel c.in-Ok.outcome _ (c.in-Ok.ensures.fed fast));
-      plays = played c.args.self.now _ c.args.ring.now c.bring-count.new.ring (dots c.args.memory.now) _ _ _ size moved count _ c.pixel.result c.willing.result refl answer
-          (subst (λ (d : ℕ → ℕ). Loaded d c.args.self.now.feeder.counts.progress.arrived c.bring-count.result c.args.ring.now c.bring-count.new.ring) c.willing.ensures loaded)
-          c.pixel.ensures;
+      same = c.bring-count.ensures.same ∙ c.willing.ensures.same;
+      unasked = tt;
+      fed = λ fast. ap (λ (e : Exchange). is_missing e.pixel) c.of.ensures ∙ fed_pixel c.in-Ok.outcome _ (c.in-Ok.ensures.fed fast);
+      plays = played c.args.self.now _ c.args.ring.now c.bring-count.new.ring (script c.args.memory.now) _ _ _ size moved count _ c.of.result.pixel c.willing.result refl said answer
+          (subst (λ (s : Script). Loaded (s.dots 0) c.args.self.now.feeder.counts.progress.arrived c.bring-count.result c.args.ring.now c.bring-count.new.ring) c.willing.ensures.same loaded)
+          (ap (λ (e : Exchange). e.pixel) c.of.ensures);
     }
