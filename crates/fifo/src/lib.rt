@@ -1,4 +1,4 @@
-// The FIFO as a ring: ticks over lent numbers.
+// The FIFO as a ring: ticks over lent numbers, and a typed FIFO with any memory.
 #![tactic(auto)]
 
 mod ends;

@@ -4,7 +4,7 @@ ghost use Rattle.fifo.specs.Gives.{out_from};
 
 use super::pixels::{Exchange, Pixel};
 
-// The last number of each is how many dots are requested in this tick; of `Refused` it is the refusal's number.
+// Numbers in place of types, since a circuit's program in C reads it. The last number of each is how many dots are requested in this tick; of `Refused` it is the refusal's number.
 #[derive(Clone, Copy, Debug, PartialEq, Eq)]
 pub enum Out {
     // the dot that the panel takes

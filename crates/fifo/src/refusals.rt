@@ -19,7 +19,7 @@ pub enum Refusal {
 }
 
 impl Refusal {
-    // The number by which the refusal is known outside.
+    // The number by which the refusal is known outside: `tick` answers it to a program in C.
     pub fn number(&self) -> u64
         ensures { result ≡ refusal_number self.now }
     {
