@@ -1,16 +1,20 @@
 -- No keyword begins another, and each takes its numbers in one way.
-use Rattle.std.proofs.Common.{◌≡◌, ℕ, zero, suc, ◌<◌, Bool, true, false, cond, ◌&&◌, eqb, List, [], ◌∷◌, ◌++◌, map, length, get_or, Some, None, Decides, Option, sym, refl, ap, ◌∙◌, subst, inl, inr, arith, Bor}
+use Rattle.std.proofs.Common.{◌≡◌, ℕ, zero, suc, ◌<◌, Bool, true, false, cond, ◌&&◌, eqb, List, [], ◌∷◌, ◌++◌, map, length, get_or, Some, None, Decides, Option, Vec, sym, refl, ap, ◌∙◌, subst, inl, inr, arith, Bor}
 use Rattle.std.specs.List.{AllByRecursion}
+use Rattle.std.specs.Option.{option_map}
+use Rattle.std.specs.declared.alloc.Global.{Global}
 use Rattle.std.proofs.lemmas.Bool.{eqb-true, eq-eqb}
-use Rattle.text.specs.Keyed.{key_text, Unkeyed, IsKeyed, IsKeyedBy, onto, flags_of, alone, by_flags, assembled}
+use Rattle.text.specs.Keyed.{key_text, Unkeyed, onto, flags_of, alone, by_flags, assembled, spoken, IsFlags}
 use Rattle.text.specs.Said.{Said, plan, in_time, run_latest, run_by, chart_latest, trace_latest, when, at, dots, ring, tick, state, set_state, next, help, nothing, keyword, flag, numbers, Whole, Remark}
+use Rattle.text.specs.declared.commands.Command.{Command}
+use Rattle.text.specs.declared.commands.Command.TheVariants as command
 use Rattle.text.specs.declared.keys.Key.{Key}
 use Rattle.text.specs.declared.keys.Key.TheVariants.{Plan, InTime, RunLatest, RunBy, ChartLatest, TraceLatest, When, At, Dots, Ring, Tick, State, Next, Help}
 
-abbrev all_keys : List Key
+abbrev pub all_keys : List Key
 all_keys = Plan ∷ InTime ∷ RunLatest ∷ RunBy ∷ ChartLatest ∷ TraceLatest ∷ When ∷ At ∷ Dots ∷ Ring ∷ Tick ∷ State ∷ Next ∷ Help ∷ []
 
-each : (P : Key → Type 0) → AllByRecursion P all_keys → (key : Key) → P key
+pub each : (P : Key → Type 0) → AllByRecursion P all_keys → (key : Key) → P key
 each P h Plan = h.0
 each P h InTime = h.1.0
 each P h RunLatest = h.1.1.0
@@ -25,10 +29,6 @@ each P h Tick = h.1.1.1.1.1.1.1.1.1.1.0
 each P h State = h.1.1.1.1.1.1.1.1.1.1.1.0
 each P h Next = h.1.1.1.1.1.1.1.1.1.1.1.1.0
 each P h Help = h.1.1.1.1.1.1.1.1.1.1.1.1.1.0
-
-pub keyed : (line : List ℕ) (r : Option (Key × Bor (List ℕ))) → IsKeyedBy all_keys line r → IsKeyed line r
-keyed line None h = λ key. each (Unkeyed line) h key
-keyed line (Some p) h = h
 
 abbrev begins : List ℕ → List ℕ → Bool
 begins [] line = true
@@ -171,7 +171,7 @@ no_flag ns i l none fs e =
     let p = flags_at fs i (omega (arith, ap length e)) in
     none p.0 (p.1 ∙ ap (λ (t : List ℕ). get_or t i 0) e)
 
-pub run_some : (ns : List ℕ) (fs : List Bool) → map flag fs ≡ ns → (length ns ≡ 0 → ⊥) → Some (run_by fs) ≡ by_flags (flags_of ns)
+run_some : (ns : List ℕ) (fs : List Bool) → map flag fs ≡ ns → (length ns ≡ 0 → ⊥) → Some (run_by fs) ≡ by_flags (flags_of ns)
 run_some ns [] e some = absurd (some (ap length (sym e)))
 run_some ns (f ∷ fs) e some = ap by_flags (sym (flags_are (f ∷ fs)) ∙ ap flags_of e)
 
@@ -179,8 +179,12 @@ flags_none : (ns : List ℕ) (o : Option (List Bool)) → flags_of ns ≡ o → 
 flags_none ns None e none = refl
 flags_none ns (Some fs) e none = absurd (none fs (flags_from ns fs e))
 
-pub run_none : (ns : List ℕ) → ((fs : List Bool) → map flag fs ≡ ns → ⊥) → None ≡ by_flags (flags_of ns)
+run_none : (ns : List ℕ) → ((fs : List Bool) → map flag fs ≡ ns → ⊥) → None ≡ by_flags (flags_of ns)
 run_none ns none = flags_none ns (flags_of ns) refl none
+
+pub run_is : (ns : List ℕ) (o : Option (Vec Bool Global)) (r : Option Command) → r ≡ option_map command.RunBy o → IsFlags ns o → (length ns ≡ 0 → ⊥) → spoken r ≡ by_flags (flags_of ns)
+run_is ns None r e h some = ap spoken e ∙ run_none ns h
+run_is ns (Some flags) r e h some = ap spoken e ∙ run_some ns flags.items h some
 
 -- a line that has a first byte is a remark if that is `#`
 pub remark_first : (line : List ℕ) (c : ℕ) (cs : List ℕ) → line ≡ c ∷ cs → Decides (eqb c 35) (Remark line)

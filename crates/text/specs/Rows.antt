@@ -23,10 +23,14 @@ abbrev pub Row : (ℕ → ℕ) → List ℕ → List ℕ → Type 0
 Row read text [] = text ≡ []
 Row read text (n ∷ ns) = (word rest : List ℕ) × (text ≡ 32 ∷ (word ++ rest)) × Numeral read word n × Row read rest ns
 
--- the text that is written of a row of numbers
+-- the text that is written of a row whose items stand for numbers: each behind one space
+abbrev pub row_text_by : {A : Type 0} → (A → ℕ) → List A → List ℕ
+row_text_by number [] = []
+row_text_by number (x ∷ xs) = 32 ∷ (decimal (number x) ++ row_text_by number xs)
+
+-- of a row of numbers
 abbrev pub row_text : List ℕ → List ℕ
-row_text [] = []
-row_text (n ∷ ns) = 32 ∷ (decimal n ++ row_text ns)
+row_text = row_text_by (λ n. n)
 
 -- the word up to the first space, and the rest
 pub record Cut (text word rest : List ℕ) : Type 0 where
