@@ -1,11 +1,11 @@
 -- No keyword begins another, and each takes its numbers in one way.
-use Rattle.std.proofs.Common.{◌≡◌, ℕ, zero, suc, ◌<◌, Bool, true, false, cond, ◌&&◌, eqb, List, [], ◌∷◌, ◌++◌, map, length, get_or, Some, None, Decides, Option, Vec, sym, refl, ap, ◌∙◌, subst, inl, inr, arith, Bor}
+use Rattle.std.proofs.Common.{◌≡◌, ℕ, zero, suc, ◌<◌, Bool, true, false, cond, ◌&&◌, eqb, List, [], ◌∷◌, ◌++◌, map, length, get_or, Some, None, Decides, Option, Vec, sym, refl, ap, ◌∙◌, subst, inl, inr, arith}
 use Rattle.std.specs.List.{AllByRecursion}
 use Rattle.std.specs.Option.{option_map}
 use Rattle.std.specs.declared.alloc.Global.{Global}
 use Rattle.std.proofs.lemmas.Bool.{eqb-true, eq-eqb}
 use Rattle.std.proofs.lemmas.Option.{none-some}
-use Rattle.text.specs.Keyed.{key_text, Unkeyed, onto, flags_of, alone, by_flags, assembled, spoken, IsFlags}
+use Rattle.text.specs.Keyed.{key_text, onto, flags_of, alone, by_flags, assembled, spoken, IsFlags}
 use Rattle.text.specs.Said.{Said, plan, in_time, run_latest, run_by, chart_latest, trace_latest, when, at, dots, ring, tick, state, set_state, next, help, nothing, keyword, flag, numbers, Whole, Remark}
 use Rattle.text.specs.declared.commands.Command.{Command}
 use Rattle.text.specs.declared.commands.Command.TheVariants as command
