@@ -1,10 +1,17 @@
 // A plan at work: its picture, and the numbers that the circuit's entries are lent.
 ghost use Rattle.std.specs.Prelude.{◌≡◌, IfOk, None, vec_len};
 
+use super::failures::Failure;
+use super::replies::Reply;
+use super::turned::Turned;
+use super::whys::Why;
+use feeder::Counts;
+use fifo::{Refusal, next_dots};
+use playback::try_tick;
 use std::alloc::{AllocError, Global};
 use timing::Plan;
 
-#[derive(Drop)]
+#[derive(Debug, PartialEq, Drop)]
 pub struct Bench {
     pub plan: Plan,
     // the plan's seven numbers, as they are lent
@@ -15,21 +22,73 @@ pub struct Bench {
     pub ring: Vec<u16>,
 }
 
+// Numbers as dots, unless one is none.
+fn as_dots(heap: Global, row: &[u32]) -> Result<Vec<u16>, Failure> {
+    row.iter()
+        .enumerate()
+        .map(|(at, number)| -> Result<u16, Failure> {
+            let number = *number;
+            Ok(u16::try_from(number).map_err(|_| Why::NotADot { at, number })?)
+        })
+        .try_collect(heap)
+}
+
 impl Bench {
     // At a frame's start, with an empty ring.
     pub fn new(heap: Global, plan: Plan) -> Result<Bench, AllocError>
         ensures { IfOk result (λ b. (b.plan ≡ plan) × (vec_len b.ring ≡ plan.numbers.capacity) × (b.dots ≡ None)) }
     {
-        let n = plan.numbers();
-        let ring = Vec::from_elem(heap, 0u16, n.capacity as usize)?;
+        let numbers = plan.numbers();
+        let ring = Vec::from_elem(heap, 0u16, numbers.capacity as usize)?;
         Ok(Bench {
             plan,
-            row: [
-                n.width, n.height, n.hblank, n.vblank, n.capacity, n.burst, n.latency,
-            ],
+            row: numbers.into(),
             dots: None,
             state: [0; 6],
             ring,
         })
+    }
+
+    pub(crate) fn set_dots(&mut self, heap: Global, row: &[u32]) -> Result<Reply, Failure> {
+        let count = row.len();
+        let dots = self.plan.frame_dots();
+        if count != dots as usize {
+            return Err(Why::NotAllDots { count, dots }.into());
+        }
+        self.dots = Some(as_dots(heap, row)?);
+        Ok(Reply::Kept)
+    }
+
+    pub(crate) fn set_state(&mut self, row: &[u32]) -> Result<Reply, Failure> {
+        let plan = self.plan;
+        let counts = Counts::resume(plan, row).map_err(|refusal| Turned::lent(
+            &plan,
+            row,
+            Refusal::State(refusal),
+        ))?;
+        self.state = counts.state();
+        Ok(Reply::Kept)
+    }
+
+    pub(crate) fn set_ring(&mut self, heap: Global, row: &[u32]) -> Result<Reply, Failure> {
+        let length = row.len();
+        if length != self.ring.len() {
+            return Err(Turned::lent(&self.plan, &[], Refusal::Ring { length }).into());
+        }
+        self.ring = as_dots(heap, row)?;
+        Ok(Reply::Kept)
+    }
+
+    pub(crate) fn tick(&mut self, heap: Global, row: &[u32]) -> Result<Reply, Failure> {
+        let brought = as_dots(heap, row)?;
+        match try_tick(&self.row, &mut self.state, &mut self.ring, &brought) {
+            Ok(exchange) => Ok(Reply::Gives(exchange)),
+            Err(refusal) => Err(Turned::lent(&self.plan, &self.state, refusal).into()),
+        }
+    }
+
+    pub(crate) fn next(&self, heap: Global) -> Result<Reply, Failure> {
+        let part = next_dots(&self.row, &self.state, &self.ring);
+        Ok(Reply::Next(Vec::from_slice(heap, part)?))
     }
 }

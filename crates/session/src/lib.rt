@@ -2,6 +2,7 @@
 #![tactic(auto)]
 
 mod benches;
+mod failures;
 mod replies;
 mod sessions;
 mod turned;

@@ -1,18 +1,17 @@
 // Replies as values, and how they are written.
 ghost use Rattle.std.specs.Prelude.{◌≡◌, Some};
 ghost use Rattle.session.specs.Help.{help_text};
-ghost use Rattle.session.specs.Parts.{verdict_text, state_text, exchange_text, numbers_text, tick_text, dot_text, missing_text};
+ghost use Rattle.session.specs.Parts.{verdict_text, pixel_text, numbers_text};
 ghost use Rattle.session.specs.Replies.{reply_text};
-ghost use Rattle.std.specs.Fmt.{WritesOnOk};
-ghost use Rattle.text.specs.Rows.{row_text};
 
 use super::turned::Turned;
 use deadline::Verdict;
 use playback::{Exchange, Pixel};
 use std::fmt;
+use text::Row;
 use timing::Dot;
 
-#[derive(Drop)]
+#[derive(Debug, PartialEq, Drop)]
 pub enum Reply {
     Help,
     NoPlan,
@@ -56,101 +55,66 @@ fn help() -> &'static str
     HELP
 }
 
-fn write_verdict<W: fmt::Write>(verdict: Verdict, f: &mut fmt::Formatter<W>) -> fmt::Result
-    ensures { WritesOnOk W.write_str_gives f.old result (verdict_text verdict) f.new }
-{
-    match verdict {
-        Verdict::InTime => f.write_str("yes\n"),
-        Verdict::TurnedAway(_) => f.write_str("no 1: no plan\n"),
-        Verdict::Slow { burst, latency } => write!(
-            f,
-            "no 2: {burst} at once, and {latency} are needed: an answer takes {latency} ticks\n"
-        ),
-        Verdict::Cramped {
-            capacity,
-            needed,
-            burst,
-            latency,
-        } => write!(
-            f,
-            "no 3: room for {capacity} dots, and {needed} are needed: {burst} at once and {latency} ticks\n"
-        ),
-        Verdict::Sudden { vblank, latency } => write!(
-            f,
-            "no 4: {vblank} ticks before the picture, and {latency} are needed: an answer takes {latency} ticks\n"
-        ),
+// A verdict as a line.
+#[derive(Clone, Copy)]
+struct VerdictLine(Verdict);
+
+impl fmt::Display for VerdictLine {
+    ghost output = { λ line. Some (verdict_text line.0) };
+
+    fn fmt<W: fmt::Write>(&self, f: &mut fmt::Formatter<W>) -> fmt::Result {
+        match self.0 {
+            Verdict::InTime => f.write_str("yes\n"),
+            Verdict::TurnedAway(_) => f.write_str("no 1: no plan\n"),
+            Verdict::Slow { burst, latency } => write!(
+                f,
+                "no 2: {burst} at once, and {latency} are needed: an answer takes {latency} ticks\n"
+            ),
+            Verdict::Cramped {
+                capacity,
+                needed,
+                burst,
+                latency,
+            } => write!(
+                f,
+                "no 3: room for {capacity} dots, and {needed} are needed: {burst} at once and {latency} ticks\n"
+            ),
+            Verdict::Sudden { vblank, latency } => write!(
+                f,
+                "no 4: {vblank} ticks before the picture, and {latency} are needed: an answer takes {latency} ticks\n"
+            ),
+        }
     }
 }
 
-fn write_state<W: fmt::Write>(state: &[u32; 6], f: &mut fmt::Formatter<W>) -> fmt::Result
-    ensures { WritesOnOk W.write_str_gives f.old result (state_text state.now) f.new }
-{
-    let [tick, requested, arrived, pending, waited, underrun] = *state;
-    write!(
-        f,
-        "{tick} {requested} {arrived} {pending} {waited} {underrun}\n"
-    )
-}
+// What the panel gets, in words.
+#[derive(Clone, Copy)]
+struct Shown(Pixel);
 
-fn write_exchange<W: fmt::Write>(exchange: Exchange, f: &mut fmt::Formatter<W>) -> fmt::Result
-    ensures { WritesOnOk W.write_str_gives f.old result (exchange_text exchange) f.new }
-{
-    let requested = exchange.requested;
-    match exchange.pixel {
-        Pixel::Dot(dot) => write!(f, "dot {dot}, {requested} asked for\n"),
-        Pixel::Dark => write!(f, "dark, {requested} asked for\n"),
-        Pixel::Missing => write!(f, "missing, {requested} asked for\n"),
+impl fmt::Display for Shown {
+    ghost output = { λ shown. Some (pixel_text shown.0) };
+
+    fn fmt<W: fmt::Write>(&self, f: &mut fmt::Formatter<W>) -> fmt::Result {
+        match self.0 {
+            Pixel::Dot(dot) => write!(f, "dot {dot}"),
+            Pixel::Dark => f.write_str("dark"),
+            Pixel::Missing => f.write_str("missing"),
+        }
     }
 }
 
-// The dots with one space between each two.
-fn write_dots<W: fmt::Write>(dots: &[u16], f: &mut fmt::Formatter<W>) -> fmt::Result
-    ensures { WritesOnOk W.write_str_gives f.old result (numbers_text dots.now) f.new }
-{
-    let Some((first, rest)) = dots.split_first() else {
-        return f.write_str("none\n");
-    };
-    let first = *first;
-    write!(f, "{first}")?;
-    write_row(rest, f)?;
-    f.write_str("\n")
-}
+// Dots as a line, with one space between each two.
+#[derive(Clone, Copy)]
+struct DotsLine<'a>(&'a [u16]);
 
-// Each dot behind a space.
-fn write_row<W: fmt::Write>(dots: &[u16], f: &mut fmt::Formatter<W>) -> fmt::Result
-    ensures { WritesOnOk W.write_str_gives f.old result (row_text dots.now) f.new }
-{
-    for dot in dots {
-        let dot = *dot;
-        write!(f, " {dot}")?;
-    }
-    Ok(())
-}
+impl<'a> fmt::Display for DotsLine<'a> {
+    ghost output = { λ line. Some (numbers_text line.0.now) };
 
-fn write_tick<W: fmt::Write>(tick: Option<u32>, f: &mut fmt::Formatter<W>) -> fmt::Result
-    ensures { WritesOnOk W.write_str_gives f.old result (tick_text tick) f.new }
-{
-    match tick {
-        Some(tick) => write!(f, "tick {tick}\n"),
-        None => f.write_str("none\n"),
-    }
-}
-
-fn write_dot<W: fmt::Write>(dot: Option<Dot>, f: &mut fmt::Formatter<W>) -> fmt::Result
-    ensures { WritesOnOk W.write_str_gives f.old result (dot_text dot) f.new }
-{
-    match dot {
-        Some(Dot { x, y }) => write!(f, "dot {x} of line {y}\n"),
-        None => f.write_str("none\n"),
-    }
-}
-
-fn write_missing<W: fmt::Write>(tick: Option<u32>, f: &mut fmt::Formatter<W>) -> fmt::Result
-    ensures { WritesOnOk W.write_str_gives f.old result (missing_text tick) f.new }
-{
-    match tick {
-        Some(tick) => write!(f, "missing in tick {tick}\n"),
-        None => f.write_str("none missing\n"),
+    fn fmt<W: fmt::Write>(&self, f: &mut fmt::Formatter<W>) -> fmt::Result {
+        match self.0 {
+            [] => f.write_str("none\n"),
+            [first, rest @ ..] => write!(f, "{first}{}\n", Row(rest)),
+        }
     }
 }
 
@@ -161,22 +125,23 @@ impl fmt::Display for Reply {
         match self {
             Reply::Help => f.write_str(help()),
             Reply::NoPlan => f.write_str("no plan yet\n"),
-            Reply::Plan { ticks, dots } => {
-                let (ticks, dots) = (*ticks, *dots);
-                write!(f, "kept: {ticks} ticks, {dots} dots\n")
-            }
+            Reply::Plan { ticks, dots } => write!(f, "kept: {ticks} ticks, {dots} dots\n"),
             Reply::Kept => f.write_str("kept\n"),
-            Reply::Verdict(verdict) => write_verdict(*verdict, f),
-            Reply::Tick(tick) => write_tick(*tick, f),
-            Reply::Dot(dot) => write_dot(*dot, f),
-            Reply::State(state) => write_state(state, f),
-            Reply::Gives(exchange) => write_exchange(*exchange, f),
-            Reply::Next(dots) => write_dots(dots.as_slice(), f),
-            Reply::Missing(tick) => write_missing(*tick, f),
-            Reply::Refused(turned) => {
-                let turned = *turned;
-                write!(f, "{turned}\n")
+            Reply::Verdict(verdict) => VerdictLine(*verdict).fmt(f),
+            Reply::Tick(Some(tick)) => write!(f, "tick {tick}\n"),
+            Reply::Dot(Some(Dot { x, y })) => write!(f, "dot {x} of line {y}\n"),
+            Reply::Tick(None) | Reply::Dot(None) => f.write_str("none\n"),
+            Reply::State([tick, requested, arrived, pending, waited, underrun]) => write!(
+                f,
+                "{tick} {requested} {arrived} {pending} {waited} {underrun}\n"
+            ),
+            Reply::Gives(Exchange { pixel, requested }) => {
+                write!(f, "{}, {requested} asked for\n", Shown(*pixel))
             }
+            Reply::Next(dots) => DotsLine(dots).fmt(f),
+            Reply::Missing(Some(tick)) => write!(f, "missing in tick {tick}\n"),
+            Reply::Missing(None) => f.write_str("none missing\n"),
+            Reply::Refused(turned) => write!(f, "{turned}\n"),
         }
     }
 }

@@ -6,19 +6,17 @@ ghost use Rattle.session.specs.declared.whys.Why.TheVariants.{NoCommand};
 ghost use Rattle.text.specs.Said.{Said, Says};
 
 use super::benches::Bench;
+use super::failures::Failure;
 use super::replies::Reply;
 use super::turned::Turned;
 use super::whys::Why;
 use deadline::judge;
-use feeder::Counts;
-use fifo::{Refusal, next_dots};
-use playback::try_tick;
 use std::alloc::{AllocError, Global};
 use text::Command;
 use timing::Plan;
 
 // What is to be done about a line.
-#[derive(Drop)]
+#[derive(Debug, PartialEq, Drop)]
 pub enum Answer {
     // it asks nothing
     Silence,
@@ -37,131 +35,14 @@ pub struct Session {
     lines: usize,
 }
 
-fn refused(turned: Turned) -> Reply {
-    Reply::Refused(turned)
-}
-
-// Numbers as dots, or the first that is none.
-fn as_dots(heap: Global, row: &[u32]) -> Result<Result<Vec<u16>, Why>, AllocError> {
-    let mut dots = Vec::with_capacity(heap, row.len())?;
-    for (at, number) in row.iter().enumerate() {
-        match u16::try_from(*number) {
-            Ok(dot) => dots.push(dot)?,
-            Err(_) => {
-                let number = *number;
-                return Ok(Err(Why::NotADot { at, number }));
-            }
-        }
-    }
-    Ok(Ok(dots))
-}
-
-fn keep(heap: Global, bench: &mut Option<Bench>, row: &[u32]) -> Result<Reply, AllocError> {
-    match Plan::new(row) {
-        Ok(plan) => {
-            *bench = Some(Bench::new(heap, plan)?);
-            Ok(Reply::Plan {
-                ticks: plan.frame_ticks(),
-                dots: plan.frame_dots(),
-            })
-        }
-        Err(refusal) => Ok(refused(Turned::plan(row, refusal))),
-    }
-}
-
-fn set_dots(
-    heap: Global,
-    bench: &mut Bench,
-    line: usize,
-    row: &[u32],
-) -> Result<Reply, AllocError> {
-    let count = row.len();
-    let dots = bench.plan.frame_dots();
-    if count != dots as usize {
-        return Ok(refused(Turned::text(line, Why::NotAllDots { count, dots })));
-    }
-    match as_dots(heap, row)? {
-        Ok(dots) => {
-            bench.dots = Some(dots);
-            Ok(Reply::Kept)
-        }
-        Err(why) => Ok(refused(Turned::text(line, why))),
-    }
-}
-
-fn set_state(bench: &mut Bench, row: &[u32]) -> Reply {
-    match Counts::resume(bench.plan, row) {
-        Ok(counts) => {
-            bench.state = counts.state();
-            Reply::Kept
-        }
-        Err(refusal) => refused(Turned::lent(&bench.plan, row, Refusal::State(refusal))),
-    }
-}
-
-fn set_ring(
-    heap: Global,
-    bench: &mut Bench,
-    line: usize,
-    row: &[u32],
-) -> Result<Reply, AllocError> {
-    let length = row.len();
-    if length != bench.ring.len() {
-        return Ok(refused(Turned::lent(&bench.plan, &[], Refusal::Ring { length })));
-    }
-    match as_dots(heap, row)? {
-        Ok(ring) => {
-            bench.ring = ring;
-            Ok(Reply::Kept)
-        }
-        Err(why) => Ok(refused(Turned::text(line, why))),
-    }
-}
-
-fn tick(heap: Global, bench: &mut Bench, line: usize, row: &[u32]) -> Result<Reply, AllocError> {
-    let brought = match as_dots(heap, row)? {
-        Ok(dots) => dots,
-        Err(why) => return Ok(refused(Turned::text(line, why))),
-    };
-    let lent = bench.row;
-    let mut state = bench.state;
-    match try_tick(
-        &lent,
-        &mut state,
-        bench.ring.as_mut_slice(),
-        brought.as_slice(),
-    ) {
-        Ok(exchange) => {
-            bench.state = state;
-            Ok(Reply::Gives(exchange))
-        }
-        Err(refusal) => Ok(refused(Turned::lent(&bench.plan, &state, refusal))),
-    }
-}
-
-fn next(heap: Global, bench: &Bench) -> Result<Reply, AllocError> {
-    let part = next_dots(&bench.row, &bench.state, bench.ring.as_slice());
-    Ok(Reply::Next(Vec::from_slice(heap, part)?))
-}
-
-// To a command that needs a plan and plays no frame.
-fn reply(
-    heap: Global,
-    bench: &mut Bench,
-    line: usize,
-    command: &Command,
-) -> Result<Reply, AllocError> {
-    match command {
-        Command::InTime => Ok(Reply::Verdict(judge(&bench.plan))),
-        Command::When(dot) => Ok(Reply::Tick(bench.plan.tick_of(*dot))),
-        Command::At(tick) => Ok(Reply::Dot(bench.plan.dot_at(*tick))),
-        Command::Dots(row) => set_dots(heap, bench, line, row.as_slice()),
-        Command::State => Ok(Reply::State(bench.state)),
-        Command::SetState(row) => Ok(set_state(bench, row.as_slice())),
-        Command::Ring(row) => set_ring(heap, bench, line, row.as_slice()),
-        Command::Tick(row) => tick(heap, bench, line, row.as_slice()),
-        _ => next(heap, bench),
-    }
+// A new plan, in place of what was there.
+fn keep(heap: Global, bench: &mut Option<Bench>, row: &[u32]) -> Result<Reply, Failure> {
+    let plan = Plan::new(row).map_err(|refusal| Turned::plan(row, refusal))?;
+    *bench = Some(Bench::new(heap, plan)?);
+    Ok(Reply::Plan {
+        ticks: plan.frame_ticks(),
+        dots: plan.frame_dots(),
+    })
 }
 
 impl Session {
@@ -183,20 +64,29 @@ impl Session {
     }
 
     // To a command: whether a frame is to be played, or what is said.
-    fn respond(&mut self, heap: Global, line: usize, command: Command) -> Result<Answer, AllocError>
+    fn respond(&mut self, heap: Global, command: Command) -> Result<Answer, Failure>
         ensures { self.new.lines ≡ self.old.lines }
     {
-        match (command, &mut self.bench) {
-            (Command::Nothing, _) => Ok(Answer::Silence),
-            (Command::Help, _) => Ok(Answer::Say(Reply::Help)),
-            (Command::Plan(row), bench) => Ok(Answer::Say(keep(heap, bench, row.as_slice())?)),
-            (_, None) => Ok(Answer::Say(Reply::NoPlan)),
-            (Command::RunLatest, _) => Ok(Answer::RunLatest),
-            (Command::RunBy(willing), _) => Ok(Answer::RunBy(willing)),
-            (Command::ChartLatest, _) => Ok(Answer::Chart),
-            (Command::TraceLatest, _) => Ok(Answer::Trace),
-            (command, Some(bench)) => Ok(Answer::Say(reply(heap, bench, line, &command)?)),
-        }
+        let reply = match (command, &mut self.bench) {
+            (Command::Nothing, _) => return Ok(Answer::Silence),
+            (Command::Help, _) => Reply::Help,
+            (Command::Plan(row), bench) => keep(heap, bench, &row)?,
+            (_, None) => Reply::NoPlan,
+            (Command::RunLatest, Some(_)) => return Ok(Answer::RunLatest),
+            (Command::RunBy(willing), Some(_)) => return Ok(Answer::RunBy(willing)),
+            (Command::ChartLatest, Some(_)) => return Ok(Answer::Chart),
+            (Command::TraceLatest, Some(_)) => return Ok(Answer::Trace),
+            (Command::InTime, Some(bench)) => Reply::Verdict(judge(&bench.plan)),
+            (Command::When(dot), Some(bench)) => Reply::Tick(bench.plan.tick_of(dot)),
+            (Command::At(tick), Some(bench)) => Reply::Dot(bench.plan.dot_at(tick)),
+            (Command::Dots(row), Some(bench)) => bench.set_dots(heap, &row)?,
+            (Command::State, Some(bench)) => Reply::State(bench.state),
+            (Command::SetState(row), Some(bench)) => bench.set_state(&row)?,
+            (Command::Ring(row), Some(bench)) => bench.set_ring(heap, &row)?,
+            (Command::Tick(row), Some(bench)) => bench.tick(heap, &row)?,
+            (Command::Next, Some(bench)) => bench.next(heap)?,
+        };
+        Ok(Answer::Say(reply))
     }
 
     // The next line of the session.
@@ -207,9 +97,11 @@ impl Session {
         let number = self.lines;
         self.lines = number.saturating_add(1);
         let Some(command) = Command::read(heap, line)? else {
-            let turned = Turned::text(number, Why::NoCommand);
-            return Ok(Answer::Say(Reply::Refused(turned)));
+            return Failure::from(Why::NoCommand).answer(number);
         };
-        self.respond(heap, number, command)
+        match self.respond(heap, command) {
+            Ok(answer) => Ok(answer),
+            Err(failure) => failure.answer(number),
+        }
     }
 }

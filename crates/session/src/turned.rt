@@ -11,7 +11,7 @@ use fifo::Refusal;
 use std::fmt;
 use timing::{Numbers, Plan, PlanRefusal};
 
-#[derive(Clone, Copy)]
+#[derive(Clone, Copy, Debug, PartialEq, Eq)]
 pub struct Turned {
     pub number: u64,
     pub place: usize,
@@ -22,9 +22,7 @@ impl fmt::Display for Turned {
     ghost output = { λ turned. Some (turned_text turned) };
 
     fn fmt<W: fmt::Write>(&self, f: &mut fmt::Formatter<W>) -> fmt::Result {
-        let number = self.number;
-        let place = self.place;
-        let why = self.why;
+        let Turned { number, place, why } = self;
         write!(f, "turned away {number} at {place}: {why}")
     }
 }
@@ -33,7 +31,7 @@ impl fmt::Display for Turned {
 fn number_at(row: &[u32], place: usize) -> u32
     ensures { result ≡ slice_index row.now place }
 {
-    if place < row.len() { row[place] } else { 0 }
+    row.get(place).copied().unwrap_or(0)
 }
 
 fn plan_why(row: &[u32], refusal: PlanRefusal) -> PlanWhy
@@ -79,8 +77,12 @@ fn state_why(plan: &Plan, state: &[u32], refusal: StateRefusal) -> Why
             return Why::StateLength { count: state.len() };
         }
         StateRefusal::FrameOver => return Why::FrameOver { tick, ticks },
-        StateRefusal::PendingMark => return mark(state, 3),
-        StateRefusal::UnderrunMark => return mark(state, 5),
+        StateRefusal::PendingMark => return Why::Mark {
+            number: number_at(state, 3),
+        },
+        StateRefusal::UnderrunMark => return Why::Mark {
+            number: number_at(state, 5),
+        },
         StateRefusal::ArrivedMore => CountsWhy::ArrivedMore { arrived, requested },
         StateRefusal::PastFrame => CountsWhy::PastFrame { requested, dots },
         StateRefusal::NoRoom => CountsWhy::PastRoom { requested, room },
@@ -90,14 +92,6 @@ fn state_why(plan: &Plan, state: &[u32], refusal: StateRefusal) -> Why
         StateRefusal::NotPending => CountsWhy::NotPending { requested, arrived },
         StateRefusal::WaitedIdle => CountsWhy::WaitedIdle { waited },
     })
-}
-
-fn mark(state: &[u32], place: usize) -> Why
-    ensures { result ≡ Why.Mark (slice_index state.now place) }
-{
-    Why::Mark {
-        number: number_at(state, place),
-    }
 }
 
 fn brought_why(state: &[u32], count: usize) -> Why

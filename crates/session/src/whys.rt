@@ -4,7 +4,7 @@ ghost use Rattle.session.specs.Messages.{name_text, more_text, plan_text, counts
 
 use std::fmt;
 
-#[derive(Clone, Copy)]
+#[derive(Clone, Copy, Debug, PartialEq, Eq)]
 pub enum Why {
     NoCommand,
     NotADot { at: usize, number: u32 },
@@ -21,7 +21,7 @@ pub enum Why {
 }
 
 // Of a row that is no plan: how many numbers it has, or a number by its place.
-#[derive(Clone, Copy)]
+#[derive(Clone, Copy, Debug, PartialEq, Eq)]
 pub enum PlanWhy {
     Length {
         count: usize,
@@ -43,7 +43,7 @@ pub enum PlanWhy {
 }
 
 // Counts of a state that do not fit the plan or each other.
-#[derive(Clone, Copy)]
+#[derive(Clone, Copy, Debug, PartialEq, Eq)]
 pub enum CountsWhy {
     ArrivedMore { arrived: u32, requested: u32 },
     PastFrame { requested: u32, dots: u32 },
@@ -81,7 +81,7 @@ impl fmt::Display for PlanWhy {
     ghost output = { λ why. Some (plan_text why) };
 
     fn fmt<W: fmt::Write>(&self, f: &mut fmt::Formatter<W>) -> fmt::Result {
-        match *self {
+        match self {
             PlanWhy::Length { count } => write!(f, "{count} numbers, a plan has 7"),
             PlanWhy::TooSmall {
                 place,
@@ -113,7 +113,7 @@ impl fmt::Display for CountsWhy {
     ghost output = { λ why. Some (counts_text why) };
 
     fn fmt<W: fmt::Write>(&self, f: &mut fmt::Formatter<W>) -> fmt::Result {
-        match *self {
+        match self {
             CountsWhy::ArrivedMore { arrived, requested } => write!(
                 f,
                 "{arrived} have come, and {requested} were asked for"
@@ -154,7 +154,7 @@ impl fmt::Display for Why {
     ghost output = { λ why. Some (why_text why) };
 
     fn fmt<W: fmt::Write>(&self, f: &mut fmt::Formatter<W>) -> fmt::Result {
-        match *self {
+        match self {
             Why::NoCommand => f.write_str("no command, see help"),
             Why::NotADot { at, number } => write!(f, "dot {at} is {number}, at most 65535"),
             Why::NotAllDots { count, dots } => write!(

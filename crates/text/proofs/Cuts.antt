@@ -1,95 +1,98 @@
--- A row is read word by word: where a text is cut at its spaces, there is one way to read it.
-use Rattle.std.proofs.Common.{◌≡◌, ℕ, ◌<◌, List, [], ◌∷◌, ◌++◌, length, get_or, sym, refl, ap, ◌∙◌, subst, append_assoc, append-nil, arith}
+-- A row is the words between its spaces, so there is one way to read it.
+use Rattle.std.proofs.Common.{◌≡◌, ℕ, zero, suc, ◌<◌, Bool, false, List, [], ◌∷◌, ◌++◌, length, get_or, sym, refl, ap, ◌∙◌, subst, append-nil, arith}
 use Rattle.std.specs.Str.Parse.{AllDigits}
 use Rattle.std.specs.Char.{digit_value}
-use Rattle.std.specs.List.{AllByRecursion}
-use Rattle.text.specs.Rows.{Row, Numeral, Cut, capped}
+use Rattle.std.specs.List.{All, AllZip, AllByRecursion, slice_split, join_with_byte}
+use lib.Dec.{eqb}
+use Rattle.std.proofs.ByRecursion.{every_from_all}
+use Rattle.std.proofs.lemmas.Bool.{ne_eqb}
+use Rattle.std.proofs.lemmas.List.Splits.{slice_split_at, slice_split_none, length-slice_split, join_with_byte-slice_split}
+use Rattle.text.specs.Rows.{Row, Numeral}
 
-abbrev pub Spaceless : List ℕ → Type 0
-Spaceless word = AllByRecursion (λ c. c ≡ 32 → ⊥) word
+abbrev pub is_space : ℕ → Bool
+is_space c = eqb c 32
 
-abbrev pub Stops : List ℕ → Type 0
-Stops rest = 0 < length rest → get_or rest 0 0 ≡ 32
+abbrev pub words : List ℕ → List (List ℕ)
+words text = slice_split is_space text
 
-no_space : (c : ℕ) → digit_value c < 10 → c ≡ 32 → ⊥
-no_space c h e = let k : 36 < 10 = subst (λ x. digit_value x < 10) e h in omega arith
+no_space : (c : ℕ) → digit_value c < 10 → is_space c ≡ false
+no_space c h = ne_eqb c 32 (λ e. let k : 36 < 10 = subst (λ x. digit_value x < 10) e h in omega arith)
 
-pub spaceless_digits : (word : List ℕ) → AllDigits 10 word → Spaceless word
-spaceless_digits [] h = tt
-spaceless_digits (c ∷ cs) h = (no_space c h.0, spaceless_digits cs h.1)
+spaceless_each : (word : List ℕ) → AllDigits 10 word → AllByRecursion (λ c. is_space c ≡ false) word
+spaceless_each [] h = tt
+spaceless_each (c ∷ cs) h = (no_space c h.0, spaceless_each cs h.1)
 
-pub row_stops : (read : ℕ → ℕ) (text ns : List ℕ) → Row read text ns → Stops text
-row_stops read text [] e l = let z = ap length e in omega arith
-row_stops read text (n ∷ ns) h l = ap (λ (t : List ℕ). get_or t 0 0) h.2
-
-pub record Same (a b c d : List ℕ) : Type 0 where
-  pub word : a ≡ c
-  pub rest : b ≡ d
-
-head_is : (x y : ℕ) (s t : List ℕ) → x ∷ s ≡ y ∷ t → x ≡ y
-head_is x y s t e = cc
+spaceless : (word : List ℕ) → AllDigits 10 word → All (λ c. is_space c ≡ false) word
+spaceless word h = λ k d l. every_from_all _ word (spaceless_each word h) k d (omega arith) l
 
 tail_is : (x y : ℕ) (s t : List ℕ) → x ∷ s ≡ y ∷ t → s ≡ t
 tail_is x y s t e = cc
 
-early : (x : ℕ) (s b : List ℕ) → (x ≡ 32 → ⊥) → Stops b → b ≡ x ∷ s → ⊥
-early x s b other stops e =
-    let l : 0 < length b = omega (arith, ap length e) in
-    other (sym (ap (λ (t : List ℕ). get_or t 0 0) e) ∙ stops l)
+none_is_some : (x : ℕ) (s : List ℕ) → [] ≡ x ∷ s → ⊥
+none_is_some x s e = let z = ap length e in omega arith
 
--- two cuts at the first space are one
-pub same_cut : (a b c d : List ℕ) → Spaceless a → Stops b → Spaceless c → Stops d → a ++ b ≡ c ++ d → Same a b c d
-same_cut [] b [] d p q r s e = record { word = refl; rest = e }
-same_cut [] b (y ∷ c) d p q r s e = absurd (early y (c ++ d) b r.0 q e)
-same_cut (x ∷ a) b [] d p q r s e = absurd (early x (a ++ b) d p.0 s (sym e))
-same_cut (x ∷ a) b (y ∷ c) d p q r s e =
-    let h = head_is x y (a ++ b) (c ++ d) e in
-    let m = same_cut a b c d p.1 q r.1 s (tail_is x y (a ++ b) (c ++ d) e) in
-    record { word = let w = m.word in cc; rest = m.rest }
+module _ (read : ℕ → ℕ) where
+  -- the numbers of a row are those of its words
+  pub words_are : (text ns : List ℕ) → Row read (32 ∷ text) ns → AllZip (Numeral read) (words text) ns
+  words_are text [] h = absurd (none_is_some _ _ (sym h))
+  words_are text (n ∷ []) h =
+      let e : text ≡ h.0 = tail_is 32 32 _ _ h.2 ∙ ap (λ t. h.0 ++ t) h.4 ∙ append-nil h.0 in
+      subst (λ ws. AllZip (Numeral read) ws (n ∷ [])) (sym (ap words e ∙ slice_split_none is_space h.0 (spaceless h.0 h.3.digits))) (h.3, tt)
+  words_are text (n ∷ m ∷ ns) h =
+      let more : List ℕ = h.4.0 ++ h.4.1 in
+      let e : text ≡ h.0 ++ (32 ∷ more) = tail_is 32 32 _ _ h.2 ∙ ap (λ t. h.0 ++ t) h.4.2 in
+      subst (λ ws. AllZip (Numeral read) ws (n ∷ m ∷ ns)) (sym (ap words e ∙ slice_split_at is_space h.0 32 more (spaceless h.0 h.3.digits) refl))
+      (h.3, words_are more (m ∷ ns) (h.4.0, h.4.1, refl, h.4.3, h.4.4))
 
--- a text says one row at most
-pub same_row : (read : ℕ → ℕ) (text ns ms : List ℕ) → Row read text ns → Row read text ms → ns ≡ ms
-same_row read text [] [] p q = refl
-same_row read text [] (m ∷ ms) p q = let z = ap length (sym p ∙ q.2) in absurd (omega arith)
-same_row read text (n ∷ ns) [] p q = let z = ap length (sym q ∙ p.2) in absurd (omega arith)
-same_row read text (n ∷ ns) (m ∷ ms) p q =
-    let s = same_cut p.0 p.1 q.0 q.1 (spaceless_digits p.0 p.3.digits) (row_stops read p.1 ns p.4) (spaceless_digits q.0 q.3.digits) (row_stops read q.1 ms q.4) (tail_is 32 32 _ _ (sym p.2 ∙ q.2)) in
-    let r = same_row read q.1 ns ms (subst (λ (t : List ℕ). Row read t ns) s.rest p.4) q.4 in
-    let w = s.word in
-    let e = p.3.is in
-    let f = q.3.is in
-    cc
+  row_of : (ws : List (List ℕ)) (ns : List ℕ) → 0 < length ws → AllZip (Numeral read) ws ns → Row read (32 ∷ join_with_byte 32 ws) ns
+  row_of [] ns l h = absurd (omega arith)
+  row_of (w ∷ ws) [] l h = absurd h
+  row_of (w ∷ []) (n ∷ []) l h = (w, [], ap (λ (t : List ℕ). 32 ∷ t) (sym (append-nil w)), h.0, refl)
+  row_of (w ∷ []) (n ∷ m ∷ ns) l h = absurd h.1
+  row_of (w ∷ v ∷ ws) (n ∷ ns) l h = (w, 32 ∷ join_with_byte 32 (v ∷ ws), refl, h.0, row_of (v ∷ ws) ns (omega arith) h.1)
 
--- the numbers ms are read, and rest is left
-pub record Along (text ms rest : List ℕ) : Type 0 where
-  pub joins : (ns : List ℕ) → Row capped rest ns → Row capped text (ms ++ ns)
-  pub goes : (ns : List ℕ) → Row capped text ns → (ls : List ℕ) × Row capped rest ls
+  pub row_is : (text ns : List ℕ) → AllZip (Numeral read) (words text) ns → Row read (32 ∷ text) ns
+  row_is text ns h =
+      subst (λ t. Row read (32 ∷ t) ns) (join_with_byte-slice_split 32 text)
+      (row_of (words text) ns (omega (arith, length-slice_split is_space text)) h)
 
-pub along_start : (text ms : List ℕ) → ms ≡ [] → Along text ms text
-along_start text ms e = record { joins = λ ns r. subst (λ (l : List ℕ). Row capped text (l ++ ns)) (sym e) r; goes = λ ns r. (ns, r) }
+  same_numbers : (ws : List (List ℕ)) (ns ms : List ℕ) → AllZip (Numeral read) ws ns → AllZip (Numeral read) ws ms → ns ≡ ms
+  same_numbers [] [] [] p q = refl
+  same_numbers [] (n ∷ ns) ms p q = absurd p
+  same_numbers [] [] (m ∷ ms) p q = absurd q
+  same_numbers (w ∷ ws) [] ms p q = absurd p
+  same_numbers (w ∷ ws) (n ∷ ns) [] p q = absurd q
+  same_numbers (w ∷ ws) (n ∷ ns) (m ∷ ms) p q = let r = same_numbers ws ns ms p.1 q.1 in let e = p.0.is in let f = q.0.is in cc
 
-module _ (text ms rest behind word after : List ℕ) (so_far : Along text ms rest) (spaced : rest ≡ 32 ∷ behind) (cut : Cut behind word after) where
-  rest_is : rest ≡ 32 ∷ (word ++ after)
-  rest_is = spaced ∙ ap (λ (t : List ℕ). 32 ∷ t) cut.whole
+  -- a text says one row at most
+  pub same_row : (text ns ms : List ℕ) → Row read text ns → Row read text ms → ns ≡ ms
+  same_row text [] [] p q = refl
+  same_row text [] (m ∷ ms) p q = absurd (none_is_some _ _ (sym p ∙ q.2))
+  same_row text (n ∷ ns) [] p q = absurd (none_is_some _ _ (sym q ∙ p.2))
+  same_row text (n ∷ ns) (m ∷ ms) p q =
+      let bs : List ℕ = p.0 ++ p.1 in
+      same_numbers (words bs) (n ∷ ns) (m ∷ ms) (words_are bs (n ∷ ns) (p.0, p.1, refl, p.3, p.4)) (words_are bs (m ∷ ms) (subst (λ t. Row read t (m ∷ ms)) p.2 q))
 
-  -- what is read of rest begins with the word
-  first_word : (ls : List ℕ) → Row capped rest ls → (n : ℕ) × (ns : List ℕ) × Numeral capped word n × Row capped after ns
-  first_word [] e = let z = ap length (sym e ∙ rest_is) in absurd (omega arith)
-  first_word (n ∷ ns) h =
-      let s = same_cut h.0 h.1 word after (spaceless_digits h.0 h.3.digits) (row_stops capped h.1 ns h.4) cut.spaceless cut.stops (tail_is 32 32 _ _ (sym h.2 ∙ rest_is)) in
-      (n, ns, subst (λ (w : List ℕ). Numeral capped w n) s.word h.3, subst (λ (t : List ℕ). Row capped t ns) s.rest h.4)
+  -- the words so far and the next one
+  pub words_more : (ws : List (List ℕ)) (ns : List ℕ) (w : List ℕ) (n : ℕ) → AllZip (Numeral read) ws ns → Numeral read w n → AllZip (Numeral read) (ws ++ w ∷ []) (ns ++ n ∷ [])
+  words_more [] [] w n h k = (k, tt)
+  words_more [] (m ∷ ns) w n h k = absurd h
+  words_more (v ∷ ws) [] w n h k = absurd h
+  words_more (v ∷ ws) (m ∷ ns) w n h k = (h.0, words_more ws ns w n h.1 k)
 
-  pub along_more : (n : ℕ) (more : List ℕ) → Numeral capped word n → more ≡ ms ++ (n ∷ []) → Along text more after
-  along_more n more h e = record {
-    joins = λ ns r. subst (λ (l : List ℕ). Row capped text l) (sym (ap (λ (l : List ℕ). l ++ ns) e ∙ append_assoc ms (n ∷ []) ns)) (so_far.joins (n ∷ ns) (word, after, rest_is, h, r));
-    goes = λ ns r. let p = so_far.goes ns r in let q = first_word p.0 p.1 in (q.1, q.3);
-  }
+  word_at : (ws : List (List ℕ)) (ns : List ℕ) (i : ℕ) (d : List ℕ) → AllZip (Numeral read) ws ns → i < length ws → (n : ℕ) × Numeral read (get_or ws i d) n
+  word_at [] ns i d h l = absurd (omega arith)
+  word_at (w ∷ ws) [] i d h l = absurd h
+  word_at (w ∷ ws) (n ∷ ns) zero d h l = (n, h.0)
+  word_at (w ∷ ws) (n ∷ ns) (suc i) d h l = word_at ws ns i d h.1 (omega arith)
 
-  pub no_row : ((n : ℕ) → Numeral capped word n → ⊥) → (ns : List ℕ) → Row capped text ns → ⊥
-  no_row none ns r = let p = so_far.goes ns r in let q = first_word p.0 p.1 in none q.0 q.2
+  -- a text with a word that is no numeral is no row
+  pub no_word : (text bs : List ℕ) (i : ℕ) (w : List ℕ) → text ≡ 32 ∷ bs → i < length (words bs) → w ≡ get_or (words bs) i w → ((n : ℕ) → Numeral read w n → ⊥) → (ns : List ℕ) → Row read text ns → ⊥
+  no_word text bs i w e l is none ns h =
+      let k = word_at (words bs) ns i w (words_are bs ns (subst (λ t. Row read t ns) e h)) l in
+      none k.0 (subst (λ v. Numeral read v k.0) (sym is) k.1)
 
-pub along_all : (text ms rest : List ℕ) → Along text ms rest → rest ≡ [] → Row capped text ms
-along_all text ms rest a e = subst (λ (l : List ℕ). Row capped text l) (append-nil ms) (a.joins [] e)
-
-pub no_row_left : (text ms rest : List ℕ) → Along text ms rest → 0 < length rest → (get_or rest 0 0 ≡ 32 → ⊥) → (ns : List ℕ) → Row capped text ns → ⊥
-no_row_left text ms rest a l other ns r = let p = a.goes ns r in other (row_stops capped rest p.0 p.1 l)
+  -- nor is one that is not empty and begins otherwise
+  pub no_row : (text : List ℕ) → (length text ≡ 0 → ⊥) → ((rest : List ℕ) → text ≡ 32 ∷ rest → ⊥) → (ns : List ℕ) → Row read text ns → ⊥
+  no_row text some other [] h = some (ap length h)
+  no_row text some other (n ∷ ns) h = other _ h.2

@@ -1,4 +1,5 @@
 pub mod Cuts
+pub mod Found
 pub mod Lines
 pub mod Numerals
 pub mod Printed

@@ -6,6 +6,7 @@ use Rattle.std.proofs.lemmas.Fmt.{decimal_is_IsNumeral, decimal_digit, decimal-d
 use Rattle.std.proofs.lemmas.List.{append_cancel_left}
 use Rattle.std.proofs.lemmas.Str.Parse.{numerals_by_value, tells_digits}
 use Rattle.std.proofs.lemmas.Bool.{cases_eq}
+use Rattle.std.proofs.lemmas.Option.{none-some}
 use Rattle.text.specs.Keyed.{key_text, Unkeyed, assembled, spoken}
 use Rattle.text.specs.Law.{IsRead, ReadsBack, Laws}
 use Rattle.text.specs.Rows.{Numeral, Row, row_text, capped, exact}
@@ -13,7 +14,7 @@ use Rattle.text.specs.Said.{Said, nothing, said, keyword, numbers, written, Whol
 use Rattle.text.specs.declared.commands.Command.{Command}
 use Rattle.text.specs.declared.keys.Key.{Key}
 use Rattle.text.proofs.Cuts.{same_row}
-use Rattle.text.proofs.Table.{same_key, no_remark, sound, complete, Keyable}
+use Rattle.text.proofs.Table.{from_some, same_key, no_remark, sound, complete, Keyable}
 
 -- a number as it is written
 
@@ -91,19 +92,13 @@ module _ (line : List ℕ) (key : Key) (tail : List ℕ) (starts : line ≡ key_
   pub no_numbers : ((ns : List ℕ) → Row capped tail ns → ⊥) → (s : Said) → Says line s → ⊥
   no_numbers none s h = none (numbers s) (keyed_says s h).row
 
-some_is : (s t : Said) → Some s ≡ Some t → s ≡ t
-some_is s t e = cc
-
-none_is : (s : Said) → None ≡ Some s → ⊥
-none_is s e = let z : ◌≡◌ {A = ℕ} 0 1 = cc in omega arith
-
 one_order : (line : List ℕ) (s t : Said) → Order capped line s → Says line t → s ≡ t
 one_order line s t o h =
     let k = complete s o.whole in
     let starts : line ≡ key_text k.key ++ o.tail = o.is ∙ ap (λ (u : List ℕ). u ++ o.tail) k.is in
     let other = keyed_says line k.key o.tail starts t h in
     let ns = same_row capped o.tail (numbers s) (numbers t) o.row other.row in
-    some_is s t (sym k.assembles ∙ ap (assembled k.key) ns ∙ other.assembles)
+    from_some s t (sym k.assembles ∙ ap (assembled k.key) ns ∙ other.assembles)
 
 pub one_meaning : (line : List ℕ) (s t : Said) → Says line s → Says line t → s ≡ t
 one_meaning line s t (inl p) (inl q) = p.1 ∙ sym q.1
@@ -138,7 +133,7 @@ reads_back line (Some c) h s fits e = one_meaning line (said c) s h (subst (λ (
 pub read_row : (line : List ℕ) (key : Key) (tail ns : List ℕ) (r : Option Command) → line ≡ key_text key ++ tail → Row capped tail ns → spoken r ≡ assembled key ns → IsRead line r
 read_row line key tail ns None starts row e =
     λ s h. let k = keyed_says line key tail starts s h in
-    none_is s (e ∙ ap (assembled key) (same_row capped tail ns (numbers s) row k.row) ∙ k.assembles)
+    none-some s (e ∙ ap (assembled key) (same_row capped tail ns (numbers s) row k.row) ∙ k.assembles)
 read_row line key tail ns (Some c) starts row e = says_keyed line key tail starts ns (said c) row (sym e)
 
 pub no_key : (line : List ℕ) → (Remark line → ⊥) → ((key : Key) → Unkeyed line key) → (s : Said) → Says line s → ⊥

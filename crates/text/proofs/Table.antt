@@ -1,16 +1,21 @@
 -- No keyword begins another, and each takes its numbers in one way.
-use Rattle.std.proofs.Common.{◌≡◌, ℕ, zero, suc, ◌<◌, Bool, true, false, cond, ◌&&◌, eqb, List, [], ◌∷◌, ◌++◌, map, length, get_or, Some, None, Decides, Option, sym, refl, ap, ◌∙◌, subst, inl, inr, arith, Bor}
+use Rattle.std.proofs.Common.{◌≡◌, ℕ, zero, suc, ◌<◌, Bool, true, false, cond, ◌&&◌, eqb, List, [], ◌∷◌, ◌++◌, map, length, get_or, Some, None, Decides, Option, Vec, sym, refl, ap, ◌∙◌, subst, inl, inr, arith}
 use Rattle.std.specs.List.{AllByRecursion}
+use Rattle.std.specs.Option.{option_map}
+use Rattle.std.specs.declared.alloc.Global.{Global}
 use Rattle.std.proofs.lemmas.Bool.{eqb-true, eq-eqb}
-use Rattle.text.specs.Keyed.{key_text, Unkeyed, IsKeyed, IsKeyedBy, onto, flags_of, alone, by_flags, assembled}
+use Rattle.std.proofs.lemmas.Option.{none-some}
+use Rattle.text.specs.Keyed.{key_text, onto, flags_of, alone, by_flags, assembled, spoken, IsFlags}
 use Rattle.text.specs.Said.{Said, plan, in_time, run_latest, run_by, chart_latest, trace_latest, when, at, dots, ring, tick, state, set_state, next, help, nothing, keyword, flag, numbers, Whole, Remark}
+use Rattle.text.specs.declared.commands.Command.{Command}
+use Rattle.text.specs.declared.commands.Command.TheVariants as command
 use Rattle.text.specs.declared.keys.Key.{Key}
 use Rattle.text.specs.declared.keys.Key.TheVariants.{Plan, InTime, RunLatest, RunBy, ChartLatest, TraceLatest, When, At, Dots, Ring, Tick, State, Next, Help}
 
-abbrev all_keys : List Key
+abbrev pub all_keys : List Key
 all_keys = Plan ∷ InTime ∷ RunLatest ∷ RunBy ∷ ChartLatest ∷ TraceLatest ∷ When ∷ At ∷ Dots ∷ Ring ∷ Tick ∷ State ∷ Next ∷ Help ∷ []
 
-each : (P : Key → Type 0) → AllByRecursion P all_keys → (key : Key) → P key
+pub each : (P : Key → Type 0) → AllByRecursion P all_keys → (key : Key) → P key
 each P h Plan = h.0
 each P h InTime = h.1.0
 each P h RunLatest = h.1.1.0
@@ -25,10 +30,6 @@ each P h Tick = h.1.1.1.1.1.1.1.1.1.1.0
 each P h State = h.1.1.1.1.1.1.1.1.1.1.1.0
 each P h Next = h.1.1.1.1.1.1.1.1.1.1.1.1.0
 each P h Help = h.1.1.1.1.1.1.1.1.1.1.1.1.1.0
-
-pub keyed : (line : List ℕ) (r : Option (Key × Bor (List ℕ))) → IsKeyedBy all_keys line r → IsKeyed line r
-keyed line None h = λ key. each (Unkeyed line) h key
-keyed line (Some p) h = h
 
 abbrev begins : List ℕ → List ℕ → Bool
 begins [] line = true
@@ -58,19 +59,16 @@ key_is State tail = refl
 key_is Next tail = refl
 key_is Help tail = refl
 
-from_some : {A : Type 0} (x y : A) → Some x ≡ Some y → x ≡ y
+pub from_some : {A : Type 0} (x y : A) → Some x ≡ Some y → x ≡ y
 from_some x y e = cc
 
 -- no keyword begins another
 pub same_key : (k l : Key) (t u : List ℕ) → key_text k ++ t ≡ key_text l ++ u → k ≡ l
 same_key k l t u e = from_some k l (sym (key_is k t) ∙ ap key_of e ∙ key_is l u)
 
-none_some : {A : Type 0} (x : A) → None ≡ Some x → ⊥
-none_some x e = let z : ◌≡◌ {A = ℕ} 0 1 = cc in omega arith
-
 pub no_remark : (line : List ℕ) (key : Key) (tail : List ℕ) → Remark line → line ≡ key_text key ++ tail → ⊥
-no_remark line key tail (inl e) f = none_some key (ap key_of (sym e ∙ f) ∙ key_is key tail)
-no_remark line key tail (inr p) f = none_some key (ap key_of (sym p.1 ∙ f) ∙ key_is key tail)
+no_remark line key tail (inl e) f = none-some key (ap key_of (sym e ∙ f) ∙ key_is key tail)
+no_remark line key tail (inr p) f = none-some key (ap key_of (sym p.1 ∙ f) ∙ key_is key tail)
 
 -- zeros and ones are flags, and nothing else is
 pub flags_are : (fs : List Bool) → flags_of (map flag fs) ≡ Some fs
@@ -79,7 +77,7 @@ flags_are (true ∷ fs) = ap (onto true) (flags_are fs)
 flags_are (false ∷ fs) = ap (onto false) (flags_are fs)
 
 onto_some : (f : Bool) (o : Option (List Bool)) (fs : List Bool) → onto f o ≡ Some fs → (gs : List Bool) × (o ≡ Some gs) × (fs ≡ f ∷ gs)
-onto_some f None fs e = absurd (none_some fs e)
+onto_some f None fs e = absurd (none-some fs e)
 onto_some f (Some gs) fs e = (gs, refl, sym (from_some (f ∷ gs) fs e))
 
 pub flags_from : (ns : List ℕ) (fs : List Bool) → flags_of ns ≡ Some fs → map flag fs ≡ ns
@@ -90,7 +88,7 @@ flags_from (zero ∷ ns) fs e =
 flags_from (suc zero ∷ ns) fs e =
     let p = onto_some true (flags_of ns) fs e in
     ap (map flag) p.2 ∙ ap (λ (l : List ℕ). 1 ∷ l) (flags_from ns p.0 p.1)
-flags_from (suc (suc n) ∷ ns) fs e = absurd (none_some fs e)
+flags_from (suc (suc n) ∷ ns) fs e = absurd (none-some fs e)
 
 -- a keyword and its numbers say s
 pub record Made (key : Key) (ns : List ℕ) (s : Said) : Type 0 where
@@ -103,11 +101,11 @@ made_as key ns s t h e = subst (Made key ns) (from_some s t e) h
 
 made_alone : (key : Key) (s t : Said) (ns : List ℕ) → Made key [] s → alone s ns ≡ Some t → Made key ns t
 made_alone key s t [] h e = made_as key [] s t h e
-made_alone key s t (n ∷ ns) h e = absurd (none_some t e)
+made_alone key s t (n ∷ ns) h e = absurd (none-some t e)
 
 made_run : (ns : List ℕ) (o : Option (List Bool)) (s : Said) → flags_of ns ≡ o → by_flags o ≡ Some s → Made RunBy ns s
-made_run ns None s f e = absurd (none_some s e)
-made_run ns (Some []) s f e = absurd (none_some s e)
+made_run ns None s f e = absurd (none-some s e)
+made_run ns (Some []) s f e = absurd (none-some s e)
 made_run ns (Some (b ∷ bs)) s f e = made_as RunBy ns _ s (record { whole = tt; key_is = refl; numbers_are = flags_from ns (b ∷ bs) f }) e
 
 -- what is assembled is what it was assembled from
@@ -118,13 +116,13 @@ sound RunLatest ns s e = made_alone RunLatest _ s ns (record { whole = tt; key_i
 sound RunBy ns s e = made_run ns (flags_of ns) s refl e
 sound ChartLatest ns s e = made_alone ChartLatest _ s ns (record { whole = tt; key_is = refl; numbers_are = refl }) e
 sound TraceLatest ns s e = made_alone TraceLatest _ s ns (record { whole = tt; key_is = refl; numbers_are = refl }) e
-sound When [] s e = absurd (none_some s e)
-sound When (x ∷ []) s e = absurd (none_some s e)
+sound When [] s e = absurd (none-some s e)
+sound When (x ∷ []) s e = absurd (none-some s e)
 sound When (x ∷ y ∷ []) s e = made_as When (x ∷ y ∷ []) _ s (record { whole = tt; key_is = refl; numbers_are = refl }) e
-sound When (x ∷ y ∷ z ∷ ns) s e = absurd (none_some s e)
-sound At [] s e = absurd (none_some s e)
+sound When (x ∷ y ∷ z ∷ ns) s e = absurd (none-some s e)
+sound At [] s e = absurd (none-some s e)
 sound At (t ∷ []) s e = made_as At (t ∷ []) _ s (record { whole = tt; key_is = refl; numbers_are = refl }) e
-sound At (t ∷ n ∷ ns) s e = absurd (none_some s e)
+sound At (t ∷ n ∷ ns) s e = absurd (none-some s e)
 sound Dots ns s e = made_as Dots ns _ s (record { whole = tt; key_is = refl; numbers_are = refl }) e
 sound Ring ns s e = made_as Ring ns _ s (record { whole = tt; key_is = refl; numbers_are = refl }) e
 sound Tick ns s e = made_as Tick ns _ s (record { whole = tt; key_is = refl; numbers_are = refl }) e
@@ -171,7 +169,7 @@ no_flag ns i l none fs e =
     let p = flags_at fs i (omega (arith, ap length e)) in
     none p.0 (p.1 ∙ ap (λ (t : List ℕ). get_or t i 0) e)
 
-pub run_some : (ns : List ℕ) (fs : List Bool) → map flag fs ≡ ns → (length ns ≡ 0 → ⊥) → Some (run_by fs) ≡ by_flags (flags_of ns)
+run_some : (ns : List ℕ) (fs : List Bool) → map flag fs ≡ ns → (length ns ≡ 0 → ⊥) → Some (run_by fs) ≡ by_flags (flags_of ns)
 run_some ns [] e some = absurd (some (ap length (sym e)))
 run_some ns (f ∷ fs) e some = ap by_flags (sym (flags_are (f ∷ fs)) ∙ ap flags_of e)
 
@@ -179,8 +177,12 @@ flags_none : (ns : List ℕ) (o : Option (List Bool)) → flags_of ns ≡ o → 
 flags_none ns None e none = refl
 flags_none ns (Some fs) e none = absurd (none fs (flags_from ns fs e))
 
-pub run_none : (ns : List ℕ) → ((fs : List Bool) → map flag fs ≡ ns → ⊥) → None ≡ by_flags (flags_of ns)
+run_none : (ns : List ℕ) → ((fs : List Bool) → map flag fs ≡ ns → ⊥) → None ≡ by_flags (flags_of ns)
 run_none ns none = flags_none ns (flags_of ns) refl none
+
+pub run_is : (ns : List ℕ) (o : Option (Vec Bool Global)) (r : Option Command) → r ≡ option_map command.RunBy o → IsFlags ns o → (length ns ≡ 0 → ⊥) → spoken r ≡ by_flags (flags_of ns)
+run_is ns None r e h some = ap spoken e ∙ run_none ns h
+run_is ns (Some flags) r e h some = ap spoken e ∙ run_some ns flags.items h some
 
 -- a line that has a first byte is a remark if that is `#`
 pub remark_first : (line : List ℕ) (c : ℕ) (cs : List ℕ) → line ≡ c ∷ cs → Decides (eqb c 35) (Remark line)

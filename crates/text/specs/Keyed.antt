@@ -2,7 +2,6 @@
 use Rattle.std.specs.Prelude.{◌≡◌, ℕ, zero, suc, Bool, true, false, List, [], ◌∷◌, ◌++◌, map, Some, None, vec_items, codes, Option, Vec, MatchOption, ◌≢◌}
 use Rattle.std.specs.Borrow.{Bor}
 use Rattle.std.specs.declared.alloc.Global.{Global}
-use Rattle.std.specs.List.{AllByRecursion}
 use Rattle.text.specs.Said.{Said, said, flag, plan, in_time, run_latest, run_by, chart_latest, trace_latest, when, at, dots, ring, tick, state, set_state, next, help}
 use Rattle.text.specs.declared.commands.Command.{Command}
 use Rattle.text.specs.declared.keys.Key.{Key}
@@ -28,12 +27,12 @@ key_text Help = codes "help"
 abbrev pub Unkeyed : List ℕ → Key → Type 0
 Unkeyed line key = (tail : List ℕ) → line ≢ key_text key ++ tail
 
--- what looking for a keyword, or for one of some, may answer: it, and the rest of the line
+-- what looking for any keyword, or for one, may answer: it, and the rest of the line
 abbrev pub IsKeyed : List ℕ → Option (Key × Bor (List ℕ)) → Type 0
 IsKeyed line r = MatchOption r ((key : Key) → Unkeyed line key) (λ p. line ≡ key_text p.0 ++ p.1.now)
 
-abbrev pub IsKeyedBy : List Key → List ℕ → Option (Key × Bor (List ℕ)) → Type 0
-IsKeyedBy keys line r = MatchOption r (AllByRecursion (Unkeyed line) keys) (λ p. line ≡ key_text p.0 ++ p.1.now)
+abbrev pub IsKeyedBy : Key → List ℕ → Option (Key × Bor (List ℕ)) → Type 0
+IsKeyedBy key line r = MatchOption r (Unkeyed line key) (λ p. line ≡ key_text p.0 ++ p.1.now)
 
 -- zeros and ones as flags
 abbrev pub onto : Bool → Option (List Bool) → Option (List Bool)

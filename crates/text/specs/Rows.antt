@@ -1,8 +1,7 @@
 -- Numbers in a line: each stands behind one space. Assumes nothing: these are definitions.
-use Rattle.std.specs.Prelude.{◌≡◌, ℕ, ◌-◌, ◌^◌, ◌<◌, min, List, [], ◌∷◌, ◌++◌, length, vec_items, decimal, Option, Vec, MatchOption, ◌≢◌, slice_index, slice_index_or}
+use Rattle.std.specs.Prelude.{◌≡◌, ℕ, ◌-◌, ◌^◌, ◌<◌, min, List, [], ◌∷◌, ◌++◌, length, vec_items, decimal, Option, Vec, MatchOption, slice_index_or}
 use Rattle.std.specs.Str.Parse.{AllDigits, digits_value}
 use Rattle.std.specs.declared.alloc.Global.{Global}
-use Rattle.std.specs.List.{AllByRecursion}
 
 -- a number too large for its type is the largest that its type has
 abbrev pub capped : ℕ → ℕ
@@ -23,16 +22,14 @@ abbrev pub Row : (ℕ → ℕ) → List ℕ → List ℕ → Type 0
 Row read text [] = text ≡ []
 Row read text (n ∷ ns) = (word rest : List ℕ) × (text ≡ 32 ∷ (word ++ rest)) × Numeral read word n × Row read rest ns
 
--- the text that is written of a row of numbers
-abbrev pub row_text : List ℕ → List ℕ
-row_text [] = []
-row_text (n ∷ ns) = 32 ∷ (decimal n ++ row_text ns)
+-- the text that is written of a row whose items stand for numbers: each behind one space
+abbrev pub row_text_by : {A : Type 0} → (A → ℕ) → List A → List ℕ
+row_text_by number [] = []
+row_text_by number (x ∷ xs) = 32 ∷ (decimal (number x) ++ row_text_by number xs)
 
--- the word up to the first space, and the rest
-pub record Cut (text word rest : List ℕ) : Type 0 where
-  pub whole : text ≡ word ++ rest
-  pub spaceless : AllByRecursion (λ c. c ≢ 32) word
-  pub stops : 0 < length rest → slice_index rest 0 ≡ 32
+-- of a row of numbers
+abbrev pub row_text : List ℕ → List ℕ
+row_text = row_text_by (λ n. n)
 
 -- what reading a word, or a row, may answer: the numbers, or that there are none
 abbrev pub IsNumeral : List ℕ → Option ℕ → Type 0

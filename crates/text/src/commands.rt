@@ -9,7 +9,7 @@ use crate::rows::numbers;
 use std::alloc::{AllocError, Global};
 use timing::Dot;
 
-#[derive(Drop)]
+#[derive(Debug, PartialEq, Drop)]
 pub enum Command {
     // the numbers as they are written, however many
     Plan(Vec<u32>),
@@ -47,10 +47,10 @@ impl Command {
         let Some((key, tail)) = Key::split(line) else {
             return Ok(None);
         };
-        match numbers(heap, tail)? {
-            Some(row) => with_numbers(heap, key, row),
-            None => Ok(None),
-        }
+        let Some(row) = numbers(heap, tail)? else {
+            return Ok(None);
+        };
+        with_numbers(heap, key, row)
     }
 
     // The line that says it.
@@ -77,60 +77,35 @@ fn asks_nothing(line: &[u8]) -> bool
 fn with_numbers(heap: Global, key: Key, row: Vec<u32>) -> Result<Option<Command>, AllocError>
     ensures { IfOk result (λ command. spoken command ≡ assembled key row.items) }
 {
-    let command = match key {
-        Key::Plan => Some(Command::Plan(row)),
-        Key::InTime => if_alone(&row, Command::InTime),
-        Key::RunLatest => if_alone(&row, Command::RunLatest),
-        Key::RunBy => run_by(heap, &row)?,
-        Key::ChartLatest => if_alone(&row, Command::ChartLatest),
-        Key::TraceLatest => if_alone(&row, Command::TraceLatest),
-        Key::When => when(&row),
-        Key::At => at(&row),
-        Key::Dots => Some(Command::Dots(row)),
-        Key::Ring => Some(Command::Ring(row)),
-        Key::Tick => Some(Command::Tick(row)),
-        Key::State if row.is_empty() => Some(Command::State),
-        Key::State => Some(Command::SetState(row)),
-        Key::Next => if_alone(&row, Command::Next),
-        Key::Help => if_alone(&row, Command::Help),
+    let command = match (key, row.as_slice()) {
+        (Key::Plan, _) => Some(Command::Plan(row)),
+        (Key::InTime, []) => Some(Command::InTime),
+        (Key::RunLatest, []) => Some(Command::RunLatest),
+        (Key::RunBy, willing) => run_by(heap, willing)?,
+        (Key::ChartLatest, []) => Some(Command::ChartLatest),
+        (Key::TraceLatest, []) => Some(Command::TraceLatest),
+        (Key::When, [x, y]) => Some(Command::When(Dot { x: *x, y: *y })),
+        (Key::At, [tick]) => Some(Command::At(*tick)),
+        (Key::Dots, _) => Some(Command::Dots(row)),
+        (Key::Ring, _) => Some(Command::Ring(row)),
+        (Key::Tick, _) => Some(Command::Tick(row)),
+        (Key::State, []) => Some(Command::State),
+        (Key::State, _) => Some(Command::SetState(row)),
+        (Key::Next, []) => Some(Command::Next),
+        (Key::Help, []) => Some(Command::Help),
+        _ => None,
     };
     Ok(command)
 }
 
-fn if_alone(row: &[u32], command: Command) -> Option<Command>
-    ensures { spoken result ≡ alone (said command) row.now }
-{
-    if row.is_empty() { Some(command) } else { None }
-}
-
-fn when(row: &[u32]) -> Option<Command>
-    ensures { spoken result ≡ when_of row.now }
-{
-    match row {
-        [x, y] => Some(Command::When(Dot { x: *x, y: *y })),
-        _ => None,
-    }
-}
-
-fn at(row: &[u32]) -> Option<Command>
-    ensures { spoken result ≡ at_of row.now }
-{
-    match row {
-        [tick] => Some(Command::At(*tick)),
-        _ => None,
-    }
-}
-
+// A run has at least one flag.
 fn run_by(heap: Global, row: &[u32]) -> Result<Option<Command>, AllocError>
     ensures { IfOk result (λ command. spoken command ≡ by_flags (flags_of row.now)) }
 {
     if row.is_empty() {
         return Ok(None);
     }
-    match flags(heap, row)? {
-        Some(willing) => Ok(Some(Command::RunBy(willing))),
-        None => Ok(None),
-    }
+    Ok(flags(heap, row)?.map(Command::RunBy))
 }
 
 // Zeros and ones as flags.

@@ -2,7 +2,7 @@
 ghost use Rattle.std.specs.Prelude.{◌≡◌};
 ghost use Rattle.text.specs.Keyed.{key_text, IsKeyed, IsKeyedBy};
 
-#[derive(Clone, Copy)]
+#[derive(Clone, Copy, Debug, PartialEq, Eq)]
 pub enum Key {
     Plan,
     InTime,
@@ -63,18 +63,14 @@ impl Key {
     pub fn split(line: &[u8]) -> Option<(Key, &[u8])>
         ensures { IsKeyed line.now result }
     {
-        split_by(&KEYS, line)
+        KEYS.iter().find_map(|key| key.cut(line))
     }
-}
 
-// The same of the first of some keys.
-fn split_by<'a>(keys: &[Key], line: &'a [u8]) -> Option<(Key, &'a [u8])>
-    ensures { IsKeyedBy keys.now line.now result }
-{
-    for key in keys {
-        if let Some(tail) = line.strip_prefix(key.text().as_bytes()) {
-            return Some((*key, tail));
-        }
+    // The same of this key alone.
+    fn cut(self, line: &[u8]) -> Option<(Key, &[u8])>
+        ensures { IsKeyedBy self line.now result }
+    {
+        let tail = line.strip_prefix(self.text().as_bytes())?;
+        Some((self, tail))
     }
-    None
 }

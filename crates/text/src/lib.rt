@@ -7,6 +7,7 @@ mod rows;
 mod writing;
 
 pub use commands::Command;
+pub use writing::{Numbered, Row};
 
 #[cfg(test)]
 mod tests {

@@ -1,19 +1,95 @@
-// A command as a line.
-ghost use Rattle.std.specs.Prelude.{◌≡◌, ◌∷◌, map, Some, decimal};
-ghost use Rattle.std.specs.Fmt.{WritesOnOk};
-ghost use Rattle.text.specs.Rows.{row_text};
+// A row of numbers, and a command, as text.
+ghost use Rattle.std.specs.Prelude.{◌≡◌, ℕ, Some};
+ghost use Rattle.text.specs.Rows.{row_text, row_text_by};
 ghost use Rattle.text.specs.Said.{said, keyword, numbers, written, flag};
 
 use crate::commands::Command;
 use crate::keys::Key;
 use std::fmt;
+use timing::Dot;
+
+// What stands in a row as one number.
+pub trait Numbered: Copy {
+    ghost number: { Self → ℕ };
+
+    fn number(self) -> u32
+        ensures { result ≡ number self };
+}
+
+impl Numbered for u32 {
+    ghost number = { λ n. n };
+
+    fn number(self) -> u32 {
+        self
+    }
+}
+
+impl Numbered for u16 {
+    ghost number = { λ n. n };
+
+    fn number(self) -> u32 {
+        u32::from(self)
+    }
+}
+
+// 1 where it is set, and else 0.
+impl Numbered for bool {
+    ghost number = { flag };
+
+    fn number(self) -> u32 {
+        u32::from(self)
+    }
+}
+
+// Each number behind one space.
+#[derive(Clone, Copy)]
+pub struct Row<'a, T>(pub &'a [T]);
+
+impl<'a, T: Numbered> fmt::Display for Row<'a, T> {
+    ghost output = { λ row. Some (row_text_by T.number row.0.now) };
+
+    fn fmt<W: fmt::Write>(&self, f: &mut fmt::Formatter<W>) -> fmt::Result {
+        for item in self.0 {
+            write!(f, " {}", item.number())?;
+        }
+        Ok(())
+    }
+}
+
+// The numbers behind a command's keyword.
+#[derive(Clone, Copy)]
+struct Numbers<'a>(&'a Command);
+
+impl<'a> fmt::Display for Numbers<'a> {
+    ghost output = { λ row. Some (row_text (numbers (said row.0.now))) };
+
+    fn fmt<W: fmt::Write>(&self, f: &mut fmt::Formatter<W>) -> fmt::Result {
+        match self.0 {
+            Command::Plan(row)
+            | Command::Dots(row)
+            | Command::Ring(row)
+            | Command::Tick(row)
+            | Command::SetState(row) => Row(row).fmt(f),
+            Command::RunBy(willing) => Row(willing).fmt(f),
+            Command::When(Dot { x, y }) => Row(&[*x, *y]).fmt(f),
+            Command::At(tick) => Row(&[*tick]).fmt(f),
+            Command::InTime
+            | Command::RunLatest
+            | Command::ChartLatest
+            | Command::TraceLatest
+            | Command::State
+            | Command::Next
+            | Command::Help
+            | Command::Nothing => Ok(()),
+        }
+    }
+}
 
 impl fmt::Display for Command {
     ghost output = { λ command. Some (written (said command)) };
 
     fn fmt<W: fmt::Write>(&self, f: &mut fmt::Formatter<W>) -> fmt::Result {
-        f.write_str(first_words(self))?;
-        write_numbers(self, f)
+        write!(f, "{}{}", first_words(self), Numbers(self))
     }
 }
 
@@ -37,44 +113,4 @@ fn first_words(command: &Command) -> &'static str
         Command::Help => Key::Help.text(),
         Command::Nothing => "",
     }
-}
-
-fn write_numbers<W: fmt::Write>(command: &Command, f: &mut fmt::Formatter<W>) -> fmt::Result
-    ensures { WritesOnOk W.write_str_gives f.old result (row_text (numbers (said command.now))) f.new }
-{
-    match command {
-        Command::Plan(row) => write_row(row, f),
-        Command::Dots(row) => write_row(row, f),
-        Command::Ring(row) => write_row(row, f),
-        Command::Tick(row) => write_row(row, f),
-        Command::SetState(row) => write_row(row, f),
-        Command::RunBy(flags) => write_flags(flags, f),
-        Command::When(dot) => write_row(&[dot.x, dot.y], f),
-        Command::At(tick) => write_row(&[*tick], f),
-        _ => Ok(()),
-    }
-}
-
-fn write_row<W: fmt::Write>(row: &[u32], f: &mut fmt::Formatter<W>) -> fmt::Result
-    ensures { WritesOnOk W.write_str_gives f.old result (row_text row.now) f.new }
-{
-    for n in row {
-        write_number(*n, f)?;
-    }
-    Ok(())
-}
-
-fn write_flags<W: fmt::Write>(flags: &[bool], f: &mut fmt::Formatter<W>) -> fmt::Result
-    ensures { WritesOnOk W.write_str_gives f.old result (row_text (map flag flags.now)) f.new }
-{
-    for willing in flags {
-        write_number(u32::from(*willing), f)?;
-    }
-    Ok(())
-}
-
-fn write_number<W: fmt::Write>(n: u32, f: &mut fmt::Formatter<W>) -> fmt::Result
-    ensures { WritesOnOk W.write_str_gives f.old result (32 ∷ decimal n) f.new }
-{
-    write!(f, " {n}")
 }

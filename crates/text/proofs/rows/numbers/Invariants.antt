@@ -1,9 +1,8 @@
-use Rattle.std.proofs.Common.{length, vec_items}
-use Rattle.text.proofs.Cuts.{Along}
+-- The words so far are numerals of the numbers so far.
+use Rattle.std.proofs.Common.{map, vec_items}
+use Rattle.std.specs.List.{AllZip}
+use Rattle.text.specs.Rows.{Numeral, capped}
 use Rattle.text.proofs.rows.numbers.Given as goal
 
-abbrev pub invariant-loop-space : goal.invariant-loop-space
-invariant-loop-space l = Along l.initial.rest (vec_items l.row) l.rest
-
-abbrev pub decreases-loop-space : goal.decreases-loop-space
-decreases-loop-space l = length l.rest
+abbrev pub invariant-loop-word : goal.invariant-loop-word
+invariant-loop-word l = AllZip (Numeral capped) (map (λ w. w.now) l.yielded) (vec_items l.row)

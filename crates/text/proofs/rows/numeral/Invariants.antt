@@ -1,7 +1,7 @@
-use Rattle.std.proofs.Common.{◌≡◌, take}
-use Rattle.std.specs.Str.Parse.{AllDigits, digits_value}
-use Rattle.text.specs.Rows.{capped}
+-- The digits so far are read.
+use Rattle.std.proofs.Common.{take}
+use Rattle.text.proofs.Numerals.{Read}
 use Rattle.text.proofs.rows.numeral.Given as goal
 
 abbrev pub invariant-loop-b : goal.invariant-loop-b
-invariant-loop-b l = AllDigits 10 (take l.b-index l.word) × (l.n ≡ capped (digits_value 10 (take l.b-index l.word)))
+invariant-loop-b l = Read (take l.b-index l.word) l.n

@@ -24,16 +24,16 @@ returns-in_err-row c = record {
   laws = laws;
 }
 
-pub returns-in-Some-2 : goal.returns-in-Some-2
-returns-in-Some-2 c =
+pub returns-in_default-2 : goal.returns-in_default-2
+returns-in_default-2 c =
+    let h : IsRead c.args.line.now None =
+    no_numbers c.args.line.now c.in-Some.key c.in-Some.tail.now c.in-Some.ensures (subst (IsRow c.in-Some.tail.now) c.in_default-2.is c.in_ok-row.ensures)
+    in record { reads = h; back = reads_back c.args.line.now None h; laws = laws }
+
+pub returns : goal.returns
+returns c =
     let h : IfOk c.with_numbers.result (IsRead c.args.line.now) =
     IfOk-weaker c.with_numbers.result _ _
     (λ r e. read_row c.args.line.now c.in-Some.key c.in-Some.tail.now _ r c.in-Some.ensures (subst (IsRow c.in-Some.tail.now) c.in-Some-2.is c.in_ok-row.ensures) e)
     c.with_numbers.ensures
     in record { reads = h; back = IfOk-weaker c.with_numbers.result _ _ (reads_back c.args.line.now) h; laws = laws }
-
-pub returns-in-None : goal.returns-in-None
-returns-in-None c =
-    let h : IsRead c.args.line.now None =
-    no_numbers c.args.line.now c.in-Some.key c.in-Some.tail.now c.in-Some.ensures (subst (IsRow c.in-Some.tail.now) c.in-None.is c.in_ok-row.ensures)
-    in record { reads = h; back = reads_back c.args.line.now None h; laws = laws }
