@@ -1,25 +1,9 @@
 // A screen of text: a line of the frame to a line of text, with each missing dot marked in its place.
-ghost use Rattle.std.specs.Prelude.{◌≤◌};
-
 use super::meters::Meter;
+use itoa::write_digits;
 use playback::{Pixel, Screen};
 use std::io;
 use std::io::{IsTerminal, Write};
-
-// Writes the digits before the text's last byte: where they begin.
-fn digits(dot: u16, text: &mut [u8; 6]) -> usize
-    ensures { result ≤ 5 }
-{
-    let mut rest = dot;
-    for at in (0..5).rev() {
-        text[at] = b'0' + (rest % 10) as u8;
-        rest /= 10;
-        if rest == 0 {
-            return at;
-        }
-    }
-    0
-}
 
 #[derive(Drop)]
 pub struct Lines<W: Write + Drop, E: Write + IsTerminal + Drop> {
@@ -53,26 +37,6 @@ impl<W: Write + Drop, E: Write + IsTerminal + Drop> Lines<W, E> {
         failed?;
         out.flush()
     }
-
-    // None is a dot that is missing.
-    fn put(&mut self, dot: Option<u16>) {
-        let last = self.left <= 1;
-        self.left = if last { self.width } else { self.left - 1 };
-        let mut text = [if last { b'\n' } else { b' ' }; 6];
-        let start = match dot {
-            Some(dot) => digits(dot, &mut text),
-            None => {
-                text[4] = b'-';
-                4
-            }
-        };
-        if self.failed.is_ok() {
-            self.failed = self.out.write_all(&text[start..]);
-        }
-        if last {
-            self.meter.line();
-        }
-    }
 }
 
 impl<W: Write + Drop, E: Write + IsTerminal + Drop> Screen for Lines<W, E> {
@@ -80,10 +44,23 @@ impl<W: Write + Drop, E: Write + IsTerminal + Drop> Screen for Lines<W, E> {
     ghost accepts = { λ _ _ _. Unit {0} };
 
     fn show(&mut self, pixel: Pixel) {
-        match pixel {
-            Pixel::Dot(dot) => self.put(Some(dot)),
-            Pixel::Missing => self.put(None),
-            Pixel::Dark => {}
+        let last = self.left <= 1;
+        // one write a dot: its digits, with a space or the line's end behind them
+        let mut text = [if last { b'\n' } else { b' ' }; 6];
+        let start = match pixel {
+            Pixel::Dot(dot) => write_digits(u64::from(dot), &mut text, 5),
+            Pixel::Missing => {
+                text[4] = b'-';
+                4
+            }
+            Pixel::Dark => return,
+        };
+        if self.failed.is_ok() {
+            self.failed = self.out.write_all(&text[start..]);
+        }
+        self.left = if last { self.width } else { self.left - 1 };
+        if last {
+            self.meter.line();
         }
     }
 }

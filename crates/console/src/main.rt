@@ -7,90 +7,93 @@ mod lines;
 mod meters;
 mod traces;
 
-use anyhow::anyhow;
+use anyhow::Context;
 use session::{Answer, Reply, Session};
-use std::env;
 use std::fs::File;
 use std::io::{BufRead, BufReader, IsTerminal, Read};
 use std::process::ExitCode;
+use std::{env, io};
 
-// A frame, where a plan is there to be played.
-fn perform(rt: &HostRuntime, session: &Session, answer: &Answer) -> anyhow::Result<()> {
-    let Some(bench) = session.bench() else {
-        return Ok(());
-    };
-    match answer {
-        Answer::RunLatest => frames::run_latest(rt, bench),
-        Answer::RunBy(willing) => frames::run_by(rt, bench, willing.as_slice()),
-        Answer::Chart => frames::chart(rt, bench.plan),
-        Answer::Trace => frames::trace(rt, bench.plan),
-        _ => Ok(()),
-    }
+// A session on standard output.
+#[derive(Drop)]
+struct Console<'a> {
+    rt: &'a HostRuntime,
+    session: Session,
+    // that of failure once a line is turned away
+    status: ExitCode,
 }
 
-// Answers a line: whether it was turned away.
-fn answer(rt: &HostRuntime, session: &mut Session, line: &[u8]) -> anyhow::Result<bool> {
-    let answer = session.answer(rt.alloc(), line)?;
-    if let Answer::Say(reply) = &answer {
-        rt.print(reply)?;
-        return Ok(matches!(reply, Reply::Refused(_)));
-    }
-    perform(rt, session, &answer)?;
-    Ok(false)
-}
-
-// Every line of an input: how many were turned away. At a terminal each is asked for.
-fn converse<R: Read + Drop>(rt: &HostRuntime, input: R, prompts: bool) -> anyhow::Result<u64> {
-    let mut session = Session::new();
-    let mut turned: u64 = 0;
-    let mut lines = BufReader::new(rt.alloc(), input)?.split(rt.alloc(), b'\n');
-    for _ in 0..u64::MAX {
-        if prompts {
-            rt.print("> ")?;
-        }
-        let Some(line) = lines.next() else {
-            break;
-        };
-        let line = line?;
-        if answer(rt, &mut session, line.as_slice())? {
-            turned = turned.saturating_add(1);
+impl<'a> Console<'a> {
+    fn new(rt: &'a HostRuntime) -> Console<'a> {
+        Console {
+            rt,
+            session: Session::new(),
+            status: ExitCode::SUCCESS,
         }
     }
-    Ok(turned)
-}
 
-// Commands that stand in one argument, parted by semicolons with a space behind or not.
-fn converse_argument(rt: &HostRuntime, text: &str) -> anyhow::Result<u64> {
-    let mut session = Session::new();
-    let mut turned: u64 = 0;
-    for part in text.split(';') {
-        if answer(rt, &mut session, part.trim_start().as_bytes())? {
-            turned = turned.saturating_add(1);
+    fn say(&mut self, reply: Reply) -> io::Result<()> {
+        if matches!(&reply, Reply::Refused(_)) {
+            self.status = ExitCode::FAILURE;
+        }
+        self.rt.print(reply)
+    }
+
+    // A line: a reply, or a frame where there is a plan to play.
+    fn answer(&mut self, line: &[u8]) -> anyhow::Result<()> {
+        let rt = self.rt;
+        match (self.session.answer(rt.alloc(), line)?, self.session.bench()) {
+            (Answer::Say(reply), _) => {
+                self.say(reply)?;
+                Ok(())
+            }
+            (Answer::RunLatest, Some(bench)) => frames::run(rt, bench, &[]),
+            (Answer::RunBy(willing), Some(bench)) => frames::run(rt, bench, willing.as_slice()),
+            (Answer::Chart, Some(bench)) => frames::chart(rt, bench.plan),
+            (Answer::Trace, Some(bench)) => frames::trace(rt, bench.plan),
+            (Answer::Silence, _) | (_, None) => Ok(()),
         }
     }
-    Ok(turned)
+
+    // Every line of an input, with what asks for it before each.
+    fn converse<R: Read + Drop>(&mut self, input: R, prompt: &str) -> anyhow::Result<()> {
+        let lines = BufReader::new(self.rt.alloc(), input)?.split(self.rt.alloc(), b'\n');
+        self.rt.print(prompt)?;
+        for line in lines {
+            self.answer(line?.as_slice())?;
+            self.rt.print(prompt)?;
+        }
+        Ok(())
+    }
+
+    // Commands that are parted by semicolons, with a space behind or not.
+    fn perform(&mut self, commands: &str) -> anyhow::Result<()> {
+        for command in commands.split(';') {
+            self.answer(command.trim_start().as_bytes())?;
+        }
+        Ok(())
+    }
 }
 
-fn run(rt: &HostRuntime) -> anyhow::Result<u64> {
+fn run(rt: &HostRuntime) -> anyhow::Result<ExitCode> {
+    let mut console = Console::new(rt);
     let mut args = env::args(rt)?;
     let _name = args.next();
-    let Some(first) = args.next() else {
-        let prompts = rt.stdin().is_terminal() && rt.stdout().is_terminal();
-        return converse(rt, rt.stdin(), prompts);
-    };
-    if first.as_str() == "-c" {
-        return match args.next() {
-            Some(text) => converse_argument(rt, text.as_str()),
-            None => Err(anyhow!("-c wants the commands behind it")),
-        };
+    match args.next() {
+        Some(option) if option.as_str() == "-c" => {
+            let commands = args.next().context("-c wants the commands behind it")?;
+            console.perform(commands.as_str())?;
+        }
+        Some(path) => console.converse(File::open(rt, path.as_str())?, "")?,
+        None => {
+            let asks = rt.stdin().is_terminal() && rt.stdout().is_terminal();
+            console.converse(rt.stdin(), if asks { "> " } else { "" })?;
+        }
     }
-    converse(rt, File::open(rt, first.as_str())?, false)
+    Ok(console.status)
 }
 
 // Ends with status 1 where a line was turned away, or where the input or the output failed.
 fn main(rt: HostRuntime) -> anyhow::Result<ExitCode> {
-    if run(&rt)? > 0 {
-        return Ok(ExitCode::FAILURE);
-    }
-    Ok(ExitCode::SUCCESS)
+    run(&rt)
 }

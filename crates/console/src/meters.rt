@@ -18,7 +18,7 @@ impl<E: Write + IsTerminal + Drop> Meter<E> {
     pub fn new(err: E, plan: &Plan) -> Meter<E> {
         let seen = plan.frame_ticks() >= LONG && err.is_terminal();
         Meter {
-            out: if seen { Some(err) } else { None },
+            out: seen.then_some(err),
             lines: plan.numbers().height,
             done: 0,
         }
@@ -27,13 +27,13 @@ impl<E: Write + IsTerminal + Drop> Meter<E> {
     // One line more; one in 64 is told. A report that can't be written is left out.
     pub fn line(&mut self) {
         self.done = self.done.saturating_add(1);
-        if self.done % 64 == 0 {
+        if self.done.is_multiple_of(64) {
             self.report();
         }
     }
 
     fn report(&mut self) {
-        let percent = self.done as u64 * 100 / (self.lines as u64).max(1);
+        let percent = u64::from(self.done) * 100 / u64::from(self.lines).max(1);
         if let Some(out) = &mut self.out {
             let _ = write!(out, "\r{percent}%");
         }

@@ -1,7 +1,7 @@
 // A frame as a VCD file, the waveform format of hardware tools: a tick is two units of time, the clock high and then low.
 use scope::Sample;
-use std::io;
 use std::io::Write;
+use std::{fmt, io};
 
 const HEADER: &str = "$timescale 1 ns $end
 $scope module panel $end
@@ -17,65 +17,68 @@ $upscope $end
 $enddefinitions $end
 ";
 
+// A variable with what it holds.
+#[derive(Clone, Copy, PartialEq)]
+enum Variable {
+    Wire(char, bool),
+    Number(char, u32),
+}
+
+impl fmt::Display for Variable {
+    fn fmt<W: fmt::Write>(&self, f: &mut fmt::Formatter<W>) -> fmt::Result {
+        match *self {
+            Variable::Wire(name, on) => {
+                let bit = u32::from(on);
+                write!(f, "{bit}{name}")
+            }
+            Variable::Number(name, n) => write!(f, "b{n:b} {name}"),
+        }
+    }
+}
+
+// Where no dot is taken, none is told.
+fn variables(sample: &Sample) -> [Option<Variable>; 7] {
+    [
+        Some(Variable::Wire('t', sample.dot.is_some())),
+        sample.dot.map(|dot| Variable::Number('d', dot)),
+        Some(Variable::Number('r', sample.requested)),
+        Some(Variable::Number('a', sample.arrived)),
+        Some(Variable::Wire('p', sample.pending)),
+        Some(Variable::Number('f', sample.fill)),
+        Some(Variable::Wire('m', sample.missing)),
+    ]
+}
+
 #[derive(Drop)]
 pub struct Trace<W: Write + Drop> {
     out: W,
-    // the tick before, since only what changes is written
-    last: Option<Sample>,
-}
-
-fn bit(on: bool) -> &'static str {
-    if on { "1" } else { "0" }
+    // those of the tick before, since only what changes is written
+    last: [Option<Variable>; 7],
 }
 
 impl<W: Write + Drop> Trace<W> {
     pub fn start(mut out: W) -> io::Result<Trace<W>> {
         out.write_all(HEADER.as_bytes())?;
-        Ok(Trace { out, last: None })
-    }
-
-    fn wire(&mut self, before: Option<bool>, now: bool, name: &str) -> io::Result<()> {
-        if before == Some(now) {
-            return Ok(());
-        }
-        let value = bit(now);
-        write!(self.out, "{value}{name}\n")
-    }
-
-    fn number(&mut self, before: Option<u32>, now: u32, name: &str) -> io::Result<()> {
-        if before == Some(now) {
-            return Ok(());
-        }
-        write!(self.out, "b{now:b} {name}\n")
+        Ok(Trace {
+            out,
+            last: [None; 7],
+        })
     }
 
     // A tick: the clock's rise with what has changed, and its fall.
-    pub fn write(&mut self, now: Sample) -> io::Result<()> {
-        let time = 2 * now.tick as u64;
-        write!(self.out, "#{time}\n1!\n")?;
-        let (takes, dot, missing, requested, arrived, pending, fill) = match self.last {
-            Some(s) => (
-                Some(s.dot.is_some()),
-                s.dot,
-                Some(s.missing),
-                Some(s.requested),
-                Some(s.arrived),
-                Some(s.pending),
-                Some(s.fill),
-            ),
-            None => (None, None, None, None, None, None, None),
-        };
-        self.wire(takes, now.dot.is_some(), "t")?;
-        if let Some(next) = now.dot {
-            self.number(dot, next, "d")?;
+    pub fn write(&mut self, sample: Sample) -> io::Result<()> {
+        let rise = 2 * u64::from(sample.tick);
+        write!(self.out, "#{rise}\n1!\n")?;
+        let now = variables(&sample);
+        for (variable, before) in now.iter().zip(self.last.iter()) {
+            if variable != before
+                && let Some(variable) = variable
+            {
+                write!(self.out, "{variable}\n")?;
+            }
         }
-        self.number(requested, now.requested, "r")?;
-        self.number(arrived, now.arrived, "a")?;
-        self.wire(pending, now.pending, "p")?;
-        self.number(fill, now.fill, "f")?;
-        self.wire(missing, now.missing, "m")?;
-        let fall = time + 1;
-        self.last = Some(now);
+        self.last = now;
+        let fall = rise + 1;
         write!(self.out, "#{fall}\n0!\n")
     }
 

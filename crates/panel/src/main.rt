@@ -1,7 +1,6 @@
 // Reads commands, a line each, from a file or from standard input, and prints an answer to each.
 #![tactic(auto)]
 
-mod commands;
 mod replies;
 
 use std::alloc::Global;

@@ -1,0 +1,7 @@
+-- A dot has five digits at most, and as many places stand before the text's end.
+use Rattle.std.proofs.Common.{rules}
+use Rattle.std.proofs.lemmas.Fmt.{length-decimal-le}
+use Rattle.console.proofs.lines.LinesScreen.show.Goals as goal
+
+pub write_digits-start-requires : goal.write_digits-start-requires
+write_digits-start-requires g c = search (rules, length-decimal-le 5)
