@@ -1,9 +1,9 @@
 -- A probe follows the latest memory from a frame's start, and its samples are what is seen of that.
-use Rattle.std.proofs.Common.{◌≡◌, ℕ, suc, ◌-◌, Bool, true, false, cond, Some, None, sym, refl, ap, ◌∙◌, ap₂}
+use Rattle.std.proofs.Common.{◌≡◌, ℕ, suc, ◌-◌, Bool, true, false, cond, Some, None, Option, MatchOption, sym, refl, ap, ◌∙◌, ap₂, subst}
 use Rattle.timing.specs.Frame.{takes, taken}
 use Rattle.timing.specs.declared.numbers.Numbers.{Numbers}
 use Rattle.timing.specs.declared.plans.Plan.{Plan}
-use Rattle.feeder.specs.Feed.{Follows}
+use Rattle.feeder.specs.Feed.{Over, Follows}
 use Rattle.feeder.specs.Model.{begun, after, after_tick, after_answer, misses, uses, outcome, requests, latest, is_missing}
 use Rattle.feeder.specs.Panel.{demand_of}
 use Rattle.feeder.specs.Step.{plan_in, tick_in}
@@ -15,14 +15,7 @@ use Rattle.feeder.proofs.Frames.{ran}
 use Rattle.feeder.proofs.Plans.{by_plan}
 use Rattle.scope.specs.Fill.{fill, dot_of, sample_in, Sampled}
 use Rattle.scope.specs.Late.{late}
-use Rattle.scope.specs.declared.probes.Probe.{Probe}
 use Rattle.scope.specs.declared.samples.Sample.{Sample}
-
-same_progress : (f g : Progress) → f.requested ≡ g.requested → f.arrived ≡ g.arrived → f.pending ≡ g.pending → f.waited ≡ g.waited → f.underrun ≡ g.underrun → f ≡ g
-same_progress f g a b c d e = λ i. record { requested = a i; arrived = b i; pending = c i; waited = d i; underrun = e i }
-
-pub probed : (a : Probe) → a.feeder.counts.progress ≡ late a.feeder.counts
-probed a = same_progress _ _ a.requested a.arrived a.pending a.waited a.underrun
 
 pub late_start : (c : Counts) → tick_in c ≡ 0 → c.progress ≡ begun → c.progress ≡ late c
 unfolding after
@@ -34,7 +27,7 @@ module _ (a b : Counts) (o : Outcome) (follows : Follows a false o b) (here : a.
   unfolding after
   on = follows.progress ∙ ap (after_tick (demand_of (plan_in a)) false (tick_in a)) here
 
-  pub late_next : b.progress ≡ late b
+  late_next : b.progress ≡ late b
   late_next = on ∙ sym (ap₂ (λ (p : Numbers) t. after (demand_of p) latest t) (ap (λ (q : Plan). q.numbers) follows.plan) follows.tick)
 
   dot_given : (u m : Bool) (n k : ℕ) → dot_of (cond u (cond m (given.Missing n) (given.Dot n)) (given.Dark n)) k ≡ cond u (Some k) None
@@ -67,3 +60,8 @@ module _ (a b : Counts) (o : Outcome) (follows : Follows a false o b) (here : a.
         tick = follows.tick;
         sample = λ i. record { tick = tick i; dot = dots i; missing = misses_is i; requested = asked i; arrived = come i; pending = waits i; fill = full i };
       }
+
+-- whether or not there was a tick to follow
+pub stays_late : (a b : Counts) (r : Option Outcome) → MatchOption r (Over a b) (λ o. Follows a false o b) → a.progress ≡ late a → b.progress ≡ late b
+stays_late a b None over here = subst (λ (c : Counts). c.progress ≡ late c) (sym over.1) here
+stays_late a b (Some o) follows here = late_next a b o follows here

@@ -1,11 +1,12 @@
 // How full the FIFO is over a frame by the latest memory, in columns.
-ghost use Rattle.std.specs.Prelude.{◌≡◌, ◌+◌, ◌<◌, ◌≤◌, if◌then◌else◌, nat_lt};
+ghost use Rattle.std.specs.Prelude.{◌≡◌, ◌+◌, ◌<◌, ◌≤◌};
 ghost use Rattle.timing.specs.Frame.{frame_ticks};
 ghost use Rattle.feeder.specs.Step.{plan_in, tick_in};
 ghost use Rattle.scope.specs.Fill.{Filled, Spanned, Charted};
 
 use super::probes::Probe;
 use super::spans::Span;
+use arrayvec::ArrayVec;
 use timing::Plan;
 
 // The fill at the next tick's end.
@@ -26,29 +27,25 @@ fn measure(probe: &mut Probe, ticks: u32) -> Span
     ensures { Spanned probe.old.feeder.counts ticks result probe.new.feeder.counts }
 {
     let first = next_fill(probe);
-    let mut least = first;
-    let mut most = first;
-    for tick in 1..ticks {
+    let mut span = Span {
+        least: first,
+        most: first,
+    };
+    for _tick in 1..ticks {
         let fill = next_fill(probe);
-        least = least.min(fill);
-        most = most.max(fill);
+        span = Span {
+            least: span.least.min(fill),
+            most: span.most.max(fill),
+        };
     }
-    Span { least, most }
-}
-
-fn size(each: u32, longer: u32, column: u32) -> u32
-    requires { each + 1 < 4294967296 }
-    ensures { result ≡ each + (if nat_lt column longer then 1 else 0) }
-{
-    if column < longer { each + 1 } else { each }
+    span
 }
 
 // The frame's ticks in columns of one length, the first of them one tick longer where it does not divide evenly.
-#[derive(Clone, Copy)]
+#[derive(Debug, Drop, PartialEq, Eq)]
 pub struct Chart {
-    pub columns: [Span; 80],
-    // how many of them the frame fills: all, or as many as it has ticks
-    pub count: u32,
+    // as many as `WIDTH`, or as many as the frame has ticks
+    pub columns: ArrayVec<Span, 80>,
 }
 
 impl Chart {
@@ -62,10 +59,11 @@ impl Chart {
         let each = ticks / count;
         let longer = ticks % count;
         let mut probe = Probe::start(plan);
-        let mut columns = [Span { least: 0, most: 0 }; 80];
+        let mut columns = ArrayVec::new();
         for column in 0..count {
-            columns[column as usize] = measure(&mut probe, size(each, longer, column));
+            let size = each + u32::from(column < longer);
+            columns.push(measure(&mut probe, size));
         }
-        Chart { columns, count }
+        Chart { columns }
     }
 }

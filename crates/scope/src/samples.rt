@@ -1,8 +1,8 @@
 // A tick as it is seen from outside, at its end.
-#[derive(Clone, Copy)]
+#[derive(Clone, Copy, Debug, PartialEq, Eq)]
 pub struct Sample {
     pub tick: u32,
-    // the dot of the frame that the panel takes in this tick, if any, and whether it is missing
+    // the dot of the frame that the panel takes in this tick, if any, and whether it is missing; two fields and no enum, since a trace has a wire for each
     pub dot: Option<u32>,
     pub missing: bool,
     pub requested: u32,

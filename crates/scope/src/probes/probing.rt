@@ -34,12 +34,10 @@ impl Probe {
     pub fn sample(&mut self) -> Option<Sample>
         ensures { MatchOption result (Over self.old.feeder.counts self.new.feeder.counts) (λ s. Sampled self.old.feeder.counts s self.new.feeder.counts) }
     {
-        let mut feeder = self.feeder;
-        let before = feeder.counts();
-        let outcome = feeder.follow(false)?;
-        let after = feeder.counts();
+        let before = self.feeder.counts();
+        let outcome = self.feeder.follow(false)?;
+        let after = self.feeder.counts();
         let progress = after.progress();
-        self.feeder = feeder;
         Some(Sample {
             tick: before.tick(),
             dot: dot_of(outcome, before.taken()),

@@ -7,5 +7,5 @@ use Rattle.scope.proofs.charts.measure.Given as goal
 abbrev pub invariant-loop-tick : goal.invariant-loop-tick
 invariant-loop-tick l =
     (plan_in l.probe.feeder.counts ≡ plan_in l.initial.probe.feeder.counts)
-    × (tick_in l.probe.feeder.counts + 1 ≡ tick_in l.initial.probe.feeder.counts + l.tick)
-    × Spans (plan_in l.initial.probe.feeder.counts) (tick_in l.initial.probe.feeder.counts) l.tick l.least l.most
+    × (tick_in l.probe.feeder.counts + 1 ≡ tick_in l.initial.probe.feeder.counts + l._tick)
+    × Spans (plan_in l.initial.probe.feeder.counts) (tick_in l.initial.probe.feeder.counts) l._tick l.span.least l.span.most

@@ -4,18 +4,11 @@ use Rattle.feeder.specs.Step.{plan_in, tick_in}
 use Rattle.feeder.specs.declared.counts.Counts.{Counts}
 use Rattle.feeder.specs.declared.states.Progress.{Progress}
 use Rattle.scope.specs.Fill.{dot_of}
-use Rattle.scope.proofs.Seen.{probed, late_next, sampled}
+use Rattle.scope.proofs.Seen.{stays_late, sampled}
 use Rattle.scope.proofs.probes.Probe.sample.Goals as goal
 
 pub invariant_of-self : goal.invariant_of-self
-invariant_of-self c =
-    let e = late_next _ _ c.in_ok-outcome.outcome c.in_ok-outcome.ensures.follows (probed c.args.self.now) in record {
-      requested = ap (λ (f : Progress). f.requested) e;
-      arrived = ap (λ (f : Progress). f.arrived) e;
-      pending = ap (λ (f : Progress). f.pending) e;
-      waited = ap (λ (f : Progress). f.waited) e;
-      underrun = ap (λ (f : Progress). f.underrun) e;
-    }
+invariant_of-self c = record { latest = stays_late _ _ _ c.follow.ensures.follows c.args.self.now.latest }
 
 pub returns : goal.returns
 returns c =
@@ -24,7 +17,7 @@ returns c =
     let progress : c.progress-progress.result ≡ c.follow.new.self.counts.progress = c.progress-progress.ensures ∙ ap (λ (k : Counts). k.progress) after in
     let Taken_then = c.taken.ensures ∙ ap (λ (k : Counts). taken (plan_in k) (tick_in k)) before in
     let taken_now = c.taken-2.ensures ∙ ap (λ (k : Counts). taken (plan_in k) (tick_in k)) after in
-    sampled _ _ c.in_ok-outcome.outcome c.in_ok-outcome.ensures.follows (probed c.args.self.now) _
+    sampled _ _ c.in_ok-outcome.outcome c.in_ok-outcome.ensures.follows c.args.self.now.latest _
     (c.tick.ensures ∙ ap (λ (k : Counts). tick_in k) before)
     (c.dot_of.ensures ∙ ap (dot_of c.in_ok-outcome.outcome) Taken_then)
     c.is_missing.ensures
