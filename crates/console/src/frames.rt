@@ -5,7 +5,8 @@ use super::meters::Meter;
 use super::traces::Trace;
 use anyhow::anyhow;
 use feeder::first_underrun_latest;
-use playback::{ByList, Numbered, Picture, Stored, play};
+use fifo::{Answering, ByList, Numbered, Picture, Stored};
+use playback::play;
 use scope::{Probe, Sample};
 use session::{Bench, Reply};
 use std::io::BufWriter;
@@ -23,7 +24,10 @@ fn show<P: Picture + Drop>(
     let meter = Meter::new(rt.stderr(), &plan);
     let out = BufWriter::new(rt.alloc(), rt.stdout())?;
     let mut lines = Lines::new(out, meter, numbers.width);
-    let mut memory = ByList { picture, willing };
+    let mut memory = Answering {
+        picture,
+        willing: ByList(willing),
+    };
     let played = play(plan, ring.as_mut_slice(), &mut memory, &mut lines, 1);
     lines.finish()?;
     let underrun = played.map_err(|_| anyhow!("a ring of another length"))?;

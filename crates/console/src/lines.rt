@@ -1,7 +1,8 @@
 // A screen of text: a line of the frame to a line of text, with each missing dot marked in its place.
 use super::meters::Meter;
+use fifo::Pixel;
 use itoa::write_digits;
-use playback::{Pixel, Screen};
+use playback::Screen;
 use std::io;
 use std::io::{IsTerminal, Write};
 

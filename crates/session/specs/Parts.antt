@@ -3,9 +3,9 @@ use Rattle.std.specs.Prelude.{ℕ, List, [], ◌∷◌, Some, None, codes, decim
 use Rattle.timing.specs.declared.dots.Dot as place
 use Rattle.deadline.specs.declared.verdicts.Verdict.{Verdict}
 use Rattle.deadline.specs.declared.verdicts.Verdict.TheVariants.{InTime, TurnedAway, Slow, Cramped, Sudden}
-use Rattle.playback.specs.declared.pixels.Exchange.{Exchange}
-use Rattle.playback.specs.declared.pixels.Pixel.{Pixel}
-use Rattle.playback.specs.declared.pixels.Pixel.TheVariants.{Dot, Dark, Missing}
+use Rattle.fifo.specs.declared.pixels.Exchange.{Exchange}
+use Rattle.fifo.specs.declared.pixels.Pixel.{Pixel}
+use Rattle.fifo.specs.declared.pixels.Pixel.TheVariants.{Dot, Dark, Missing}
 use Rattle.text.specs.Rows.{row_text}
 use Rattle.session.specs.Messages.{◌&◌}
 

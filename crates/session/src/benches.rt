@@ -6,8 +6,7 @@ use super::replies::Reply;
 use super::turned::Turned;
 use super::whys::Why;
 use feeder::Counts;
-use fifo::{Refusal, next_dots};
-use playback::try_tick;
+use fifo::{Refusal, next_dots, try_tick};
 use std::alloc::{AllocError, Global};
 use timing::Plan;
 

@@ -6,7 +6,7 @@ ghost use Rattle.session.specs.Replies.{reply_text};
 
 use super::turned::Turned;
 use deadline::Verdict;
-use playback::{Exchange, Pixel};
+use fifo::{Exchange, Pixel};
 use std::fmt;
 use text::Row;
 use timing::Dot;
