@@ -1,4 +1,4 @@
-// A plan at work: its picture, and the numbers that the circuit's entries are lent.
+// A plan at work: its picture, and the state and the ring that the circuit's entries are lent.
 ghost use Rattle.std.specs.Prelude.{◌≡◌, IfOk, None, vec_len};
 
 use super::failures::Failure;
@@ -13,8 +13,6 @@ use timing::Plan;
 #[derive(Debug, PartialEq, Drop)]
 pub struct Bench {
     pub plan: Plan,
-    // the plan's seven numbers, as they are lent
-    pub row: [u32; 7],
     // the picture's dots; none where they are numbered from 0
     pub dots: Option<Vec<u16>>,
     pub state: [u32; 6],
@@ -37,11 +35,9 @@ impl Bench {
     pub fn new(heap: Global, plan: Plan) -> Result<Bench, AllocError>
         ensures { IfOk result (λ b. (b.plan ≡ plan) × (vec_len b.ring ≡ plan.numbers.capacity) × (b.dots ≡ None)) }
     {
-        let numbers = plan.numbers();
-        let ring = Vec::from_elem(heap, 0u16, numbers.capacity as usize)?;
+        let ring = Vec::from_elem(heap, 0u16, plan.numbers().capacity as usize)?;
         Ok(Bench {
             plan,
-            row: numbers.into(),
             dots: None,
             state: [0; 6],
             ring,
@@ -80,14 +76,16 @@ impl Bench {
 
     pub(crate) fn tick(&mut self, heap: Global, row: &[u32]) -> Result<Reply, Failure> {
         let brought = as_dots(heap, row)?;
-        match try_tick(&self.row, &mut self.state, &mut self.ring, &brought) {
+        let plan = <[u32; 7]>::from(self.plan.numbers());
+        match try_tick(&plan, &mut self.state, &mut self.ring, &brought) {
             Ok(exchange) => Ok(Reply::Gives(exchange)),
             Err(refusal) => Err(Turned::lent(&self.plan, &self.state, refusal).into()),
         }
     }
 
     pub(crate) fn next(&self, heap: Global) -> Result<Reply, Failure> {
-        let part = next_dots(&self.row, &self.state, &self.ring);
+        let plan = <[u32; 7]>::from(self.plan.numbers());
+        let part = next_dots(&plan, &self.state, &self.ring);
         Ok(Reply::Next(Vec::from_slice(heap, part)?))
     }
 }

@@ -13,6 +13,7 @@ use timing::{Numbers, Plan, PlanRefusal};
 
 #[derive(Clone, Copy, Debug, PartialEq, Eq)]
 pub struct Turned {
+    // a line that is at fault has one number for every reason, so the reason alone does not say it
     pub number: u64,
     pub place: usize,
     pub why: Why,

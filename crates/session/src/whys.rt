@@ -62,19 +62,21 @@ fn more(number: u32) -> &'static str
     if number == u32::MAX { " or more" } else { "" }
 }
 
-// What the numbers of a plan are called.
+const NAMES: [&str; 7] = [
+    "dots in a line",
+    "lines",
+    "ticks before a line",
+    "ticks before the picture",
+    "room",
+    "at once",
+    "latest",
+];
+
+// What a number of a plan is called, by its place.
 fn name(place: usize) -> &'static str
     ensures { result.now ≡ name_text place }
 {
-    match place {
-        0 => "dots in a line",
-        1 => "lines",
-        2 => "ticks before a line",
-        3 => "ticks before the picture",
-        4 => "room",
-        5 => "at once",
-        _ => "latest",
-    }
+    NAMES[place.min(6)]
 }
 
 impl fmt::Display for PlanWhy {
@@ -87,24 +89,23 @@ impl fmt::Display for PlanWhy {
                 place,
                 number,
                 least,
-            } => {
-                let name = name(place);
-                write!(f, "{name} is {number}, at least {least}")
-            }
+            } => write!(f, "{} is {number}, at least {least}", name(*place)),
             PlanWhy::TooLarge {
                 place,
                 number,
                 most,
-            } => {
-                let name = name(place);
-                let more = more(number);
-                write!(f, "{name} is {number}{more}, at most {most}")
-            }
-            PlanWhy::NoRoomFor { place, number } => {
-                let name = name(place);
-                let more = more(number);
-                write!(f, "{name} is {number}{more}, and there is no room for it")
-            }
+            } => write!(
+                f,
+                "{} is {number}{}, at most {most}",
+                name(*place),
+                more(*number)
+            ),
+            PlanWhy::NoRoomFor { place, number } => write!(
+                f,
+                "{} is {number}{}, and there is no room for it",
+                name(*place),
+                more(*number)
+            ),
         }
     }
 }

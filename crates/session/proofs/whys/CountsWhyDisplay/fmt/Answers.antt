@@ -15,9 +15,6 @@ returns-in-PastRoom-clause-writes g c = prints_of g.W.Write.write_str_gives coun
 pub returns-in-WaitedLong-clause-writes : goal.returns-in-WaitedLong-clause-writes
 returns-in-WaitedLong-clause-writes g c = prints_of g.W.Write.write_str_gives counts_text _ _ _ _ _ c.in-WaitedLong.is c.write-in-WaitedLong.ensures.writes
 
-pub returns-in-AllArrived-clause-writes : goal.returns-in-AllArrived-clause-writes
-returns-in-AllArrived-clause-writes g c = prints_of g.W.Write.write_str_gives counts_text _ _ _ _ _ c.in-AllArrived.is c.write-in-AllArrived.ensures.writes
-
 pub returns-in-PastBurst-clause-writes : goal.returns-in-PastBurst-clause-writes
 returns-in-PastBurst-clause-writes g c = prints_of g.W.Write.write_str_gives counts_text _ _ _ _ _ c.in-PastBurst.is c.write-in-PastBurst.ensures.writes
 

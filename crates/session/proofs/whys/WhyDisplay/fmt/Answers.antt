@@ -3,12 +3,6 @@ use Rattle.session.specs.Messages.{why_text}
 use Rattle.session.proofs.Printed.{prints_of}
 use Rattle.session.proofs.whys.WhyDisplay.fmt.Goals as goal
 
-pub returns-in-NoCommand-clause-writes : goal.returns-in-NoCommand-clause-writes
-returns-in-NoCommand-clause-writes g c = prints_of g.W.Write.write_str_gives why_text _ _ _ _ _ c.in-NoCommand.is c.write_str.ensures.writes
-
-pub returns-in-NotADot-clause-writes : goal.returns-in-NotADot-clause-writes
-returns-in-NotADot-clause-writes g c = prints_of g.W.Write.write_str_gives why_text _ _ _ _ _ c.in-NotADot.is c.write.ensures.writes
-
 pub returns-in-NotAllDots-clause-writes : goal.returns-in-NotAllDots-clause-writes
 returns-in-NotAllDots-clause-writes g c = prints_of g.W.Write.write_str_gives why_text _ _ _ _ _ c.in-NotAllDots.is c.write-in-NotAllDots.ensures.writes
 
@@ -29,6 +23,3 @@ returns-in-NothingPending-clause-writes g c = prints_of g.W.Write.write_str_give
 
 pub returns-in-NotWhole-clause-writes : goal.returns-in-NotWhole-clause-writes
 returns-in-NotWhole-clause-writes g c = prints_of g.W.Write.write_str_gives why_text _ _ _ _ _ c.in-NotWhole.is c.write-in-NotWhole.ensures.writes
-
-pub returns-in-Late-clause-writes : goal.returns-in-Late-clause-writes
-returns-in-Late-clause-writes g c = prints_of g.W.Write.write_str_gives why_text _ _ _ _ _ c.in-Late.is c.write_str-in-Late.ensures.writes
