@@ -1,9 +1,10 @@
 -- The verdict is that a plan is in time just where the rule says so, and a row that is no plan is turned away.
-use Rattle.std.proofs.Common.{◌≡◌, ℕ, ◌+◌, true, false, ltb, List, length, Decides, sym, ap, ◌∙◌, ⊎_elim, arith}
-use Rattle.std.proofs.lemmas.Bool.{cases_Bool, cond_both, and_parts, and_left, and_right, ne_eqb}
+use Rattle.std.proofs.Common.{◌≡◌, ℕ, ◌+◌, true, false, ltb, List, length, Decides, Ok, Err, Result, MatchResult, IsOk, rules, sym, ap, ◌∙◌, ⊎_elim, arith}
+use Rattle.std.proofs.lemmas.Bool.{cases_Bool, cond_both, and_parts, and_left, and_right, ne_eqb, both_ways}
 use Rattle.std.proofs.lemmas.Bool.Decides.{nat_tests}
 use Rattle.timing.specs.Row.{numbers_in, Refuses}
 use Rattle.timing.specs.declared.numbers.Numbers.{Numbers}
+use Rattle.timing.specs.declared.plans.Plan.{Plan}
 use Rattle.timing.specs.declared.refusals.PlanRefusal.{PlanRefusal}
 use Rattle.timing.specs.declared.refusals.PlanRefusal.TheVariants.{TooShort, TooLong, OutOfRange}
 use Rattle.timing.proofs.Rows.{refused_wrong}
@@ -53,3 +54,14 @@ number_judged row v = ⊎_elim
     (λ plan. rw plan (λ e. ap number_of e))
     (λ none. rw none (λ away. ap number_of away.1))
     (cases_Bool (is_plan row))
+
+-- a row that is a plan is read as one
+pub no_refusal : (row : List ℕ) (read : Result Plan PlanRefusal) → is_plan row ≡ true → MatchResult read (λ plan. (length row ≡ 7) × (plan.numbers ≡ numbers_in row)) (Refuses row) → IsOk read
+no_refusal row (Ok plan) ok is = search rules
+no_refusal row (Err e) ok is = absurd (both_ways _ (no_plan row e is) ok)
+
+pub row_judged : (row : List ℕ) (read : Result Plan PlanRefusal) (v : Verdict) → MatchResult read (λ plan. (length row ≡ 7) × (plan.numbers ≡ numbers_in row)) (Refuses row) → MatchResult read (λ plan. v ≡ verdict_of plan.numbers) (λ e. v ≡ TurnedAway e) → Judges row v
+row_judged row (Ok plan) v is judged =
+    let ok : is_plan row ≡ true = rw (is.0, ← is.1) plan.ok in
+    rw ok (judged ∙ ap verdict_of is.1)
+row_judged row (Err e) v is judged = turned_away row v e judged is

@@ -5,6 +5,7 @@ ghost use Rattle.std.specs.Option.{MatchOption};
 use timing::{Numbers, Plan};
 
 // The least capacity by which a plan with these other numbers is in time; none where no capacity will do.
+#[tactic(auto, using(timing::proofs::Goods::good_says))]
 pub fn least_capacity(plan: &Plan) -> Option<u32>
     ensures { MatchOption result (NoCapacity plan.now.numbers) (LeastCapacity plan.now.numbers) }
 {
@@ -14,11 +15,8 @@ pub fn least_capacity(plan: &Plan) -> Option<u32>
         latency,
         ..
     } = plan.numbers();
-    if latency > burst || latency > vblank {
-        return None;
-    }
     let needed = burst + latency - 1;
-    if needed > Plan::MAX_CAPACITY {
+    if latency > burst || latency > vblank || needed > Plan::MAX_CAPACITY {
         return None;
     }
     Some(needed)

@@ -21,13 +21,11 @@ fn settled(row: &[u32]) -> Plan
     requires { is_plan row.now ≡ true }
     ensures { result.numbers ≡ numbers_in row.now }
 {
-    match Plan::new(row) {
-        Ok(plan) => plan,
-        Err(_) => unreachable(),
-    }
+    Plan::new(row).unwrap()
 }
 
 // The numbers that the other two conditions bound from below are `size` or more; none where such numbers are no plan.
+#[tactic(auto, using(std::proofs::lemmas::Bool::Decides::nat_tests), unfolding(timing::specs::Good::good, timing::specs::Row::numbers_in))]
 pub fn tight_plans(size: u32) -> Option<TightPlans>
     ensures { MatchOption result (65534 < size) (Tight size) }
 {
@@ -43,10 +41,12 @@ pub fn tight_plans(size: u32) -> Option<TightPlans>
 }
 
 // One line with no blanking before it: two that are in time, three that miss one condition each, and one that is not in time and still has its dots on a short line, with the same on a long one.
+#[tactic(auto, unfolding(timing::specs::Good::good, timing::specs::Row::numbers_in))]
 pub fn worked_plans() -> [Plan; 7]
     ensures numbers { map (λ (q : GoodPlan). q.numbers) result ≡ worked_numbers }
     ensures worked { Worked }
 {
+    // a call for each row: a `map` over the rows names each no shorter
     [
         settled(&[4000, 1, 0, 3, 5, 3, 3]),
         settled(&[4000, 1, 0, 500, 500, 2, 3]),

@@ -10,6 +10,7 @@ use super::verdicts::Verdict;
 use timing::{Numbers, Plan};
 
 // The first of the three conditions that the plan does not meet, or that it meets them all.
+#[tactic(auto, using(crate::proofs::Judged::judged, crate::proofs::Exacts::monotone, crate::proofs::Exacts::exact, timing::proofs::Goods::good_says), unfolding(crate::specs::Verdict::verdict_of))]
 pub fn judge(plan: &Plan) -> Verdict
     ensures verdict { result ≡ verdict_of plan.now.numbers }
     ensures rule { Decides (in_time plan.now.numbers) (result ≡ InTime) }
@@ -44,13 +45,11 @@ pub fn judge(plan: &Plan) -> Verdict
 pub fn judge_row(row: &[u32]) -> Verdict
     ensures { Judges row.now result }
 {
-    match Plan::new(row) {
-        Ok(plan) => judge(&plan),
-        Err(refusal) => Verdict::TurnedAway(refusal),
-    }
+    Plan::new(row).map_or_else(Verdict::TurnedAway, |plan| judge(&plan))
 }
 
-// The verdict's number: 0 in time, 1 no plan, then which condition is the first that is not met.
+// The verdict as outside knows it, by a form that is fixed: 0 in time, 1 no plan, then which condition is the first that is not met.
+#[tactic(auto, using(crate::proofs::Judged::number_judged, crate::proofs::Judged::fed_by_number, crate::proofs::Judged::exact_row))]
 pub fn in_time(plan: &[u32]) -> u64
     ensures number { result ≡ verdict_in plan.now }
     ensures fed { result ≡ 0 → AlwaysFed (numbers_in plan.now) }

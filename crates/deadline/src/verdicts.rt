@@ -4,6 +4,7 @@ ghost use Rattle.deadline.specs.Verdict.{number_of};
 
 use timing::PlanRefusal;
 
+// One enum and no `Result`, since each case has its number outside.
 #[derive(Clone, Copy, Debug, PartialEq, Eq)]
 pub enum Verdict {
     // no dot is ever missing, whenever the memory answers within its time

@@ -1,5 +1,5 @@
 -- No way of answering disagrees with the rule: none is sooner than the latest memory, and none misses a dot of a plan in time.
-use Rattle.std.proofs.Common.{◌≡◌, ℕ, suc, ◌+◌, ◌*◌, ◌/◌, ◌%◌, ◌^◌, ◌≤◌, min, Bool, true, false, is_some, Some, None, Option, refl, ⊎_elim, mul-one, arith, pow_mono}
+use Rattle.std.proofs.Common.{◌≡◌, ℕ, suc, ◌+◌, ◌*◌, ◌/◌, ◌%◌, ◌≤◌, Bool, true, false, is_some, Some, None, Option, refl, ⊎_elim, mul-one, arith}
 use Rattle.std.proofs.lemmas.Bool.{both_ways, cases_lt, le-ltb}
 use Rattle.timing.specs.Frame.{frame_ticks, frame_dots}
 use Rattle.timing.specs.Good.{good}
@@ -21,10 +21,6 @@ not_sooner p w (Some t) (Some late) h s =
 pub none_missing : (p : Numbers) (w : ℕ → Bool) (first : Option ℕ) → good p ≡ true → in_time p ≡ true → FirstUnderrun p w first → is_some first ≡ false
 none_missing p w None ok fast h = refl
 none_missing p w (Some t) ok fast h = absurd (both_ways _ (never_late (demand_of p) (sound p ok) (timely p fast) w (suc t)) h.2)
-
--- the ways in the first 20 ticks
-pub few_ways : (n : ℕ) → 2 ^ min n 20 ≤ 1048576
-few_ways n = let h : min n 20 ≤ 20 = omega arith in pow_mono h
 
 -- a long line is one on which the rule is exact
 pub long_enough : (index : ℕ) (p : Numbers) → p ≡ numbers_in (long_row index) → (p.hblank ≡ 0) × ((p.capacity + p.burst) * p.latency ≤ frame_dots p)

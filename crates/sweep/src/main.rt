@@ -3,6 +3,7 @@
 
 mod longs;
 mod smalls;
+mod sweeps;
 mod trials;
 mod ways;
 

@@ -6,8 +6,8 @@ pub fn flags_of(way: u32) -> [bool; 20]
     ensures { (k : ℕ) → k < 20 → slice_index_or result k false ≡ flag_in way k }
 {
     let mut flags = [false; 20];
-    for tick in 0..20 {
-        flags[tick] = (way >> tick) % 2 == 1;
+    for (tick, flag) in flags.iter_mut().enumerate() {
+        *flag = (way >> tick) % 2 == 1;
     }
     flags
 }

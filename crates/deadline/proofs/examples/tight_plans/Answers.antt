@@ -1,22 +1,8 @@
 use Rattle.std.proofs.Common.{sym, subst, arith}
-use Rattle.std.proofs.lemmas.Bool.Decides.{nat_tests}
-use Rattle.timing.specs.Good.{good}
 use Rattle.timing.specs.Row.{numbers_in}
 use Rattle.deadline.specs.Tight.{RateTight, RoomTight, LeadTight}
 use Rattle.deadline.proofs.Bounds.{rate_tight, room_tight, lead_tight}
 use Rattle.deadline.proofs.examples.tight_plans.Goals as goal
-
-pub settled-requires : goal.settled-requires
-unfolding numbers_in good
-settled-requires c = grind (arith, nat_tests)
-
-pub settled-requires-2 : goal.settled-requires-2
-unfolding numbers_in good
-settled-requires-2 c = grind (arith, nat_tests)
-
-pub settled-requires-3 : goal.settled-requires-3
-unfolding numbers_in good
-settled-requires-3 c = grind (arith, nat_tests)
 
 pub returns : goal.returns
 unfolding numbers_in

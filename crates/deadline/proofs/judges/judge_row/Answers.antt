@@ -1,6 +1,6 @@
-use Rattle.std.proofs.Common.{refl}
-use Rattle.deadline.proofs.Judged.{turned_away}
+use Rattle.std.proofs.Common.{rules}
+use Rattle.deadline.proofs.Judged.{row_judged}
 use Rattle.deadline.proofs.judges.judge_row.Goals as goal
 
-pub returns-in-Err : goal.returns-in-Err
-returns-in-Err c = turned_away _ _ _ refl c.in-Err.ensures
+pub returns : goal.returns
+returns c = row_judged _ _ _ c.new.ensures (search rules)
