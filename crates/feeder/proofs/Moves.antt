@@ -1,6 +1,6 @@
 -- The code's moves, over plain numbers, make the model's tick.
-use Rattle.std.proofs.Common.{◌≡◌, ℕ, suc, ◌+◌, ◌-◌, ◌<◌, ◌≤◌, min, Bool, true, false, cond, not, ◌&&◌, ◌||◌, ltb, leb, ◌⊎◌, sym, refl, ap, ◌∙◌, arith}
-use Rattle.std.proofs.lemmas.Bool.{cond_both, cond-true, cond-false}
+use Rattle.std.proofs.Common.{◌≡◌, ℕ, suc, ◌+◌, ◌-◌, ◌<◌, ◌≤◌, min, Bool, true, false, cond, not, ◌&&◌, ltb, leb, sym, refl, ap, ◌∙◌, arith}
+use Rattle.std.proofs.lemmas.Bool.{cond_both}
 use Rattle.std.proofs.lemmas.Bool.Decides.{nat_tests}
 use Rattle.timing.specs.Frame.{frame_dots, takes, taken}
 use Rattle.timing.specs.declared.numbers.Numbers.{Numbers}
@@ -10,31 +10,6 @@ use Rattle.feeder.specs.declared.outcomes.Outcome.{Outcome}
 use Rattle.feeder.specs.declared.outcomes.Outcome.TheVariants.{Dot, Dark, Missing}
 use Rattle.feeder.specs.declared.states.Progress.{Progress}
 use Rattle.feeder.proofs.Plans.{by_plan}
-
-or_none : (x b : Bool) → b ≡ false → x ≡ (x || b)
-or_none true b e = refl
-or_none false b e = sym e
-
-or_some : (x b : Bool) → b ≡ true → true ≡ (x || b)
-or_some true b e = refl
-or_some false b e = sym e
-
-pub noted_none : (b : Bool) (f : Progress) → b ≡ false → f ≡ noted b f
-unfolding noted
-noted_none b f e = λ i. record { requested = f.requested; arrived = f.arrived; pending = f.pending; waited = f.waited; underrun = or_none f.underrun b e i }
-
-pub noted_missing : (b : Bool) (f : Progress) → b ≡ true → record { requested = f.requested; arrived = f.arrived; pending = f.pending; waited = f.waited; underrun = true } ≡ noted b f
-unfolding noted
-noted_missing b f e = λ i. record { requested = f.requested; arrived = f.arrived; pending = f.pending; waited = f.waited; underrun = or_some f.underrun b e i }
-
-pub asked_none : (burst total room : ℕ) (f : Progress) → (f.pending ≡ true) ⊎ ((total ≤ f.requested) ⊎ (room < min (f.requested + burst) total)) → f ≡ asked_for burst total room f
-unfolding asked_for
-asked_none burst total room f h = sym (cond-false (not f.pending && (ltb f.requested total && leb (min (f.requested + burst) total) room)) _ f (grind (arith, nat_tests)))
-
-pub asked_some : (burst total room n : ℕ) (f : Progress) → f.pending ≡ false → f.requested < total → n ≤ room → n ≡ min (f.requested + burst) total →
-    record { requested = n; arrived = f.arrived; pending = true; waited = 0; underrun = f.underrun } ≡ asked_for burst total room f
-unfolding asked_for
-asked_some burst total room n f off left fits e = rw e (sym (cond-true (not f.pending && (ltb f.requested total && leb (min (f.requested + burst) total) room)) _ f (grind (arith, nat_tests))))
 
 pub asked_more : (burst total room : ℕ) (f : Progress) → f.requested ≤ (asked_for burst total room f).requested
 unfolding asked_for

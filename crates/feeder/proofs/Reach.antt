@@ -1,5 +1,5 @@
 -- What is reached from a frame's start stays so, tick by tick, and what holds of every way of answering holds of it.
-use Rattle.std.proofs.Common.{◌≡◌, ℕ, zero, suc, ◌+◌, ◌<◌, ◌≤◌, Bool, true, false, cond, ltb, IfSome, IfOk, Ok, Err, Result, sym, refl, ap, ◌∙◌, subst, ap₂, ⊎_elim, arith, MatchOption}
+use Rattle.std.proofs.Common.{◌≡◌, ℕ, zero, suc, ◌+◌, ◌<◌, ◌≤◌, Bool, true, false, cond, ltb, IfOk, Ok, Err, Result, sym, refl, ap, ◌∙◌, subst, ap₂, ⊎_elim, arith, MatchOption}
 use mathlib.Core.Bool.{Bool-set}
 use mathlib.Core.Logic.{∥∥₁_elim, ∥∥₁_map}
 use mathlib.Core.Path.{subst₃}
@@ -106,10 +106,6 @@ follows a b willing brought (Ok o) e m =
 follows a b willing brought (Err FrameOver) e m = (m.1, m.0)
 follows a b willing brought (Err NotPending) e m = absurd (both_ways _ (e ∙ idle_answer (demand_of (plan_in a)) willing a.progress m.1.2) m.1.1)
 follows a b willing brought (Err (Late tick)) e m = absurd (both_ways _ m.1.1 (e ∙ due_answer (demand_of (plan_in a)) willing a.progress m.1.2 m.1.3))
-
-pub follow_fed : (r : Result Outcome StepRefusal) → IfOk r Fed → IfSome (result_ok r) Fed
-follow_fed (Ok o) h = h
-follow_fed (Err e) h = tt
 
 -- once a dot was missing it stays so, and one that is missing by some way is missing by the latest
 pub none_sooner : (p : Numbers) (w : ℕ → Bool) (t : ℕ) → (after (demand_of p) latest t).underrun ≡ false → (after (demand_of p) w t).underrun ≡ false

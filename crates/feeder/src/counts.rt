@@ -9,7 +9,7 @@ use timing::Scan;
 mod resumes;
 mod steps;
 
-#[derive(Clone, Copy)]
+#[derive(Clone, Copy, Debug, PartialEq, Eq)]
 pub struct Counts {
     scan: Scan,
     // the dots of the frame

@@ -5,7 +5,7 @@ use super::counts::Counts;
 
 mod feeding;
 
-#[derive(Clone, Copy)]
+#[derive(Clone, Copy, Debug, PartialEq, Eq)]
 pub struct Feeder {
     counts: Counts,
     ghost reached: { Reached counts.scan.plan.numbers counts.scan.at.tick counts.progress },

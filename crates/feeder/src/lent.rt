@@ -30,7 +30,7 @@ pub enum StateRefusal {
 }
 
 impl StateRefusal {
-    // The number by which the refusal is known outside.
+    // The number by which the refusal is known outside, where numbers for refusals are a rule of the interface.
     pub fn number(&self) -> u64
         ensures { result ≡ state_number self.now }
     {

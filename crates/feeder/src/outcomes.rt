@@ -1,6 +1,7 @@
 // What a tick gives.
-ghost use Rattle.std.specs.Prelude.{◌≡◌};
+ghost use Rattle.std.specs.Prelude.{◌≡◌, if◌then◌else◌};
 ghost use Rattle.feeder.specs.Model.{is_missing};
+ghost use Rattle.feeder.specs.declared.outcomes.Outcome.TheVariants.{Dot, Dark, Missing};
 
 // What the panel gets in a tick, and how many dots are requested in it.
 #[derive(Clone, Copy, Debug, PartialEq, Eq)]
@@ -14,6 +15,19 @@ pub enum Outcome {
 }
 
 impl Outcome {
+    // What the panel gets where it takes a dot, which is missing or not, or takes none.
+    pub(crate) fn new(takes: bool, missing: bool, requested: u32) -> Outcome
+        ensures { result ≡ (if takes then (if missing then Missing requested else Dot requested) else Dark requested) }
+    {
+        if !takes {
+            Outcome::Dark { requested }
+        } else if missing {
+            Outcome::Missing { requested }
+        } else {
+            Outcome::Dot { requested }
+        }
+    }
+
     pub fn is_missing(&self) -> bool
         ensures { result ≡ is_missing self.now }
     {

@@ -13,7 +13,7 @@ pub enum StepRefusal {
 }
 
 impl StepRefusal {
-    // The number by which the refusal is known outside.
+    // The number by which the refusal is known outside, where numbers for refusals are a rule of the interface.
     pub fn number(&self) -> u64
         ensures { result ≡ number_of self.now }
     {

@@ -1,5 +1,5 @@
 // A frame run to its end.
-ghost use Rattle.std.specs.Prelude.{◌≡◌, ◌<◌, true, false, None, slice_index_or};
+ghost use Rattle.std.specs.Prelude.{◌≡◌, ◌<◌, true, None};
 ghost use Rattle.feeder.specs.Feed.{Ran, willing_in, FirstUnderrun, Worst, Soonest};
 ghost use Rattle.feeder.specs.Model.{latest};
 ghost use Rattle.feeder.specs.Panel.{in_time};
@@ -9,22 +9,11 @@ ghost use Rattle.timing.specs.Frame.{frame_ticks};
 use super::feeders::Feeder;
 use timing::Plan;
 
-fn flag(willing: &[bool], tick: u32) -> bool
-    ensures { result ≡ slice_index_or willing.now tick false }
-{
-    let at = tick as usize;
-    if at < willing.len() {
-        willing[at]
-    } else {
-        false
-    }
-}
-
 // Whether the flags say so of this tick; past them no.
 pub fn is_willing(flags: &[bool], tick: u32) -> bool
     ensures { result ≡ willing_in flags.now tick }
 {
-    flag(flags, tick)
+    flags.get(tick as usize).copied().unwrap_or(false)
 }
 
 // Whether a dot is missing in the feeder's next tick.
@@ -32,10 +21,9 @@ fn misses_next(feeder: &mut Feeder, willing: bool) -> bool
     requires { tick_in feeder.old.counts < frame_ticks (plan_in feeder.old.counts) }
     ensures { Ran feeder.old.counts willing result feeder.new.counts }
 {
-    match feeder.follow(willing) {
-        Some(outcome) => outcome.is_missing(),
-        None => unreachable(),
-    }
+    feeder
+        .follow(willing)
+        .is_some_and(|outcome| outcome.is_missing())
 }
 
 // The first tick in which a dot is missing, by a memory that is willing in the ticks that the flags say and in none past them. It answers where it must all the same.
@@ -44,7 +32,7 @@ pub fn first_underrun(plan: Plan, willing: &[bool]) -> Option<u32>
 {
     let mut feeder = Feeder::start(plan);
     for tick in 0..plan.frame_ticks() {
-        if misses_next(&mut feeder, flag(willing, tick)) {
+        if misses_next(&mut feeder, is_willing(willing, tick)) {
             return Some(tick);
         }
     }

@@ -96,11 +96,8 @@ tracks_at p t count ok inside counted =
 
 -- such a position's numbers are small
 pub record Near (p : Numbers) (at : Position) : Type 0 where
-  pub tick_most : at.tick ≤ 33619968
   pub count_most : at.count ≤ 16777216
-  pub x_most : at.next.x < 4096
   pub y_most : at.next.y ≤ 4096
-  pub lines_most : at.next.y * line_ticks p ≤ 33554432
   pub due_most : at.due + p.hblank < 34000000
 
 pub near : (p : Numbers) (at : Position) → good p ≡ true → Tracks p at → Near p at
@@ -112,12 +109,9 @@ near p at ok now =
     let dots : at.next.y * p.width ≤ p.height * p.width = omega (arith, now.placed, few, mul_comm p.width p.height) in
     let lines : at.next.y ≤ p.height = le_of_mul-le-mul_right dots g.width_least in
     let y_most : at.next.y ≤ 4096 = omega (arith, g) in
-    let lines_most : at.next.y * line_ticks p ≤ 33554432 = mul-le at.next.y (line_ticks p) 4096 8192 y_most s.line_most in
+    let above : at.next.y * line_ticks p ≤ 33554432 = mul-le at.next.y (line_ticks p) 4096 8192 y_most s.line_most in
     record {
-      tick_most = omega (arith, now.inside, s.frame_most);
       count_most = omega (arith, few, s.dots_most);
-      x_most = omega (arith, now.column, g);
       y_most = y_most;
-      lines_most = lines_most;
       due_most = omega (arith, now.timed, now.column, g);
     }

@@ -63,7 +63,8 @@ impl Plan {
 
     // The ticks of a line: its blanking, then one for each dot.
     pub fn line_ticks(&self) -> u32
-        ensures { result ≡ line_ticks self.now.numbers }
+        ensures value { result ≡ line_ticks self.now.numbers }
+        ensures some { 0 < result }
     {
         self.numbers.hblank + self.numbers.width
     }

@@ -1,5 +1,5 @@
 // Counts from six lent numbers, or why they are none.
-ghost use Rattle.std.specs.Prelude.{◌≡◌, if◌then◌else◌, Some, MatchResult};
+ghost use Rattle.std.specs.Prelude.{◌≡◌, Some, None, MatchResult};
 ghost use Rattle.feeder.specs.Lent.{state_refusal, mark_refusal, count_refusal, state_of, Resumed};
 
 use super::super::lent::StateRefusal;
@@ -7,23 +7,25 @@ use super::super::states::Progress;
 use super::Counts;
 use timing::{Numbers, Plan, Scan};
 
-fn mark_refusal(over: bool, pending: u32, underrun: u32) -> Option<StateRefusal>
-    ensures { result ≡ mark_refusal over pending underrun }
+#[tactic(auto, using(std::proofs::lemmas::Bool::Decides::nat_tests), unfolding(crate::specs::Lent::mark_refusal))]
+fn check_marks(over: bool, pending: u32, underrun: u32) -> Result<(), StateRefusal>
+    ensures { MatchResult result (λ _. mark_refusal over pending underrun ≡ None) (λ e. mark_refusal over pending underrun ≡ Some e) }
 {
     if over {
-        return Some(StateRefusal::FrameOver);
+        return Err(StateRefusal::FrameOver);
     }
     if pending > 1 {
-        return Some(StateRefusal::PendingMark);
+        return Err(StateRefusal::PendingMark);
     }
     if underrun > 1 {
-        return Some(StateRefusal::UnderrunMark);
+        return Err(StateRefusal::UnderrunMark);
     }
-    None
+    Ok(())
 }
 
-fn count_refusal(plan: &Plan, tick: u32, f: Progress) -> Option<StateRefusal>
-    ensures { result ≡ count_refusal plan.now.numbers tick f }
+#[tactic(auto, using(std::proofs::lemmas::Bool::Decides::nat_tests), unfolding(crate::specs::Lent::count_refusal))]
+fn check_counts(plan: &Plan, tick: u32, f: Progress) -> Result<(), StateRefusal>
+    ensures { MatchResult result (λ _. count_refusal plan.now.numbers tick f ≡ None) (λ e. count_refusal plan.now.numbers tick f ≡ Some e) }
 {
     let Numbers {
         capacity,
@@ -32,40 +34,35 @@ fn count_refusal(plan: &Plan, tick: u32, f: Progress) -> Option<StateRefusal>
         ..
     } = plan.numbers();
     if f.arrived > f.requested {
-        return Some(StateRefusal::ArrivedMore);
+        return Err(StateRefusal::ArrivedMore);
     }
     if f.requested > plan.frame_dots() {
-        return Some(StateRefusal::PastFrame);
+        return Err(StateRefusal::PastFrame);
     }
     if f.requested > plan.taken(tick) + capacity {
-        return Some(StateRefusal::NoRoom);
+        return Err(StateRefusal::NoRoom);
     }
     if f.waited >= latency {
-        return Some(StateRefusal::WaitedLong);
+        return Err(StateRefusal::WaitedLong);
     }
     if f.pending && f.arrived == f.requested {
-        return Some(StateRefusal::NothingPending);
+        return Err(StateRefusal::NothingPending);
     }
     if f.requested > f.arrived + burst {
-        return Some(StateRefusal::PastBurst);
+        return Err(StateRefusal::PastBurst);
     }
     if !f.pending && f.requested != f.arrived {
-        return Some(StateRefusal::NotPending);
+        return Err(StateRefusal::NotPending);
     }
     if !f.pending && f.waited != 0 {
-        return Some(StateRefusal::WaitedIdle);
+        return Err(StateRefusal::WaitedIdle);
     }
-    None
-}
-
-fn mark(set: bool) -> u32
-    ensures { result ≡ (if set then 1 else 0) }
-{
-    if set { 1 } else { 0 }
+    Ok(())
 }
 
 impl Counts {
     // The six numbers again.
+    #[tactic(auto, unfolding(crate::specs::Lent::state_of))]
     pub fn state(&self) -> [u32; 6]
         ensures { result ≡ state_of self.now }
     {
@@ -74,9 +71,9 @@ impl Counts {
             self.scan.tick(),
             f.requested,
             f.arrived,
-            mark(f.pending),
+            u32::from(f.pending),
             f.waited,
-            mark(f.underrun),
+            u32::from(f.underrun),
         ]
     }
 
@@ -87,24 +84,20 @@ impl Counts {
         if state.len() > 6 {
             return Err(StateRefusal::TooLong);
         }
-        let [tick, requested, arrived, pending, waited, underrun] = state else {
+        let &[tick, requested, arrived, pending, waited, underrun] = state else {
             return Err(StateRefusal::TooShort { place: state.len() });
         };
         let progress = Progress {
-            requested: *requested,
-            arrived: *arrived,
-            pending: *pending == 1,
-            waited: *waited,
-            underrun: *underrun == 1,
+            requested,
+            arrived,
+            pending: pending == 1,
+            waited,
+            underrun: underrun == 1,
         };
-        if let Some(refusal) = mark_refusal(*tick >= plan.frame_ticks(), *pending, *underrun) {
-            return Err(refusal);
-        }
-        if let Some(refusal) = count_refusal(&plan, *tick, progress) {
-            return Err(refusal);
-        }
-        let Some(scan) = Scan::resume(plan, *tick) else {
-            unreachable()
+        check_marks(tick >= plan.frame_ticks(), pending, underrun)?;
+        check_counts(&plan, tick, progress)?;
+        let Some(scan) = Scan::resume(plan, tick) else {
+            unreachable!()
         };
         Ok(Counts {
             scan,

@@ -28,8 +28,7 @@ impl Feeder {
     pub fn counts(&self) -> Counts
         ensures { result ≡ self.now.counts }
     {
-        let Feeder { counts, .. } = *self;
-        counts
+        self.counts
     }
 
     // One tick, in which the memory brings all that is pending or nothing. By a plan in time no dot is ever missing.

@@ -10,5 +10,5 @@ pub invariant_of-result : goal.invariant_of-result
 unfolding after
 invariant_of-result c = record { reached = subst (λ t. Reached (plan_in c.start.result) t c.start.result.progress) (sym c.start.ensures.tick) (reached_start (plan_in c.start.result) _ (sym c.start.ensures.progress)) }
 
-pub returns : goal.returns
-returns c = record { plan = c.start.ensures.plan; tick = c.start.ensures.tick; progress = c.start.ensures.progress; model = by_plan _ }
+pub returns-clause-model : goal.returns-clause-model
+returns-clause-model c = by_plan _

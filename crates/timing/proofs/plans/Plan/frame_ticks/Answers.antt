@@ -4,12 +4,12 @@ use Rattle.timing.proofs.Goods.{small}
 use Rattle.timing.proofs.plans.Plan.frame_ticks.Goals as goal
 
 pub overflow_mul-result : goal.overflow_mul-result
-overflow_mul-result c = rw c.line_ticks.ensures (omega (arith, (small _ c.args.self.now.ok).lines_most))
+overflow_mul-result c = rw c.line_ticks.ensures.value (omega (arith, (small _ c.args.self.now.ok).lines_most))
 
 pub overflow_add-result : goal.overflow_add-result
 unfolding frame_ticks
-overflow_add-result c = rw c.line_ticks.ensures (omega (arith, (small _ c.args.self.now.ok).frame_most))
+overflow_add-result c = rw c.line_ticks.ensures.value (omega (arith, (small _ c.args.self.now.ok).frame_most))
 
 pub returns : goal.returns
 unfolding frame_ticks
-returns c = rw c.line_ticks.ensures
+returns c = rw c.line_ticks.ensures.value

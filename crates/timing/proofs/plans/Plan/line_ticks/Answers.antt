@@ -9,4 +9,4 @@ overflow_add-result c = omega (arith, (small _ c.args.self.now.ok).line_most)
 
 pub returns : goal.returns
 unfolding line_ticks
-returns c = refl
+returns c = record { value = refl; some = omega (arith, (small _ c.args.self.now.ok).line_some) }

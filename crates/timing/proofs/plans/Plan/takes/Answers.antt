@@ -1,15 +1,11 @@
 use Rattle.std.proofs.Common.{arith}
 use Rattle.timing.specs.Frame.{takes}
-use Rattle.timing.proofs.Goods.{small}
 use Rattle.timing.proofs.Ranges.{range_tests}
 use Rattle.timing.proofs.plans.Plan.takes.Goals as goal
 
 pub returns-then-contains : goal.returns-then-contains
 unfolding takes
-returns-then-contains c = rw c.line_ticks.ensures (grind (arith, range_tests))
-
-pub nonzero_rem-result : goal.nonzero_rem-result
-nonzero_rem-result c = rw c.line_ticks.ensures (small _ c.args.self.now.ok).line_some
+returns-then-contains c = rw c.line_ticks.ensures.value (grind (arith, range_tests))
 
 pub returns-else-contains : goal.returns-else-contains
 unfolding takes
