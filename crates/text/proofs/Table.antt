@@ -1,9 +1,8 @@
 -- No keyword begins another, and each takes its numbers in one way.
-use Rattle.std.proofs.Common.{◌≡◌, ℕ, zero, suc, ◌<◌, Bool, true, false, cond, ◌&&◌, eqb, List, [], ◌∷◌, ◌++◌, map, length, get_or, Some, None, Decides, Option, Vec, sym, refl, ap, ◌∙◌, subst, inl, inr, arith}
+use Rattle.std.proofs.Common.{◌≡◌, ℕ, zero, suc, ◌<◌, Bool, true, false, cond, ◌&&◌, eqb, List, [], ◌∷◌, ◌++◌, map, length, get_or, Some, None, Option, Vec, sym, refl, ap, ◌∙◌, subst, inl, inr, arith}
 use Rattle.std.specs.List.{AllByRecursion}
 use Rattle.std.specs.Option.{option_map}
 use Rattle.std.specs.declared.alloc.Global.{Global}
-use Rattle.std.proofs.lemmas.Bool.{eqb-true, eq-eqb}
 use Rattle.std.proofs.lemmas.Option.{none-some}
 use Rattle.text.specs.Keyed.{key_text, onto, flags_of, alone, by_flags, assembled, spoken, IsFlags}
 use Rattle.text.specs.Said.{Said, plan, in_time, run_latest, run_by, chart_latest, trace_latest, when, at, dots, ring, tick, state, set_state, next, help, nothing, keyword, flag, numbers, Whole, Remark}
@@ -183,14 +182,3 @@ run_none ns none = flags_none ns (flags_of ns) refl none
 pub run_is : (ns : List ℕ) (o : Option (Vec Bool Global)) (r : Option Command) → r ≡ option_map command.RunBy o → IsFlags ns o → (length ns ≡ 0 → ⊥) → spoken r ≡ by_flags (flags_of ns)
 run_is ns None r e h some = ap spoken e ∙ run_none ns h
 run_is ns (Some flags) r e h some = ap spoken e ∙ run_some ns flags.items h some
-
--- a line that has a first byte is a remark if that is `#`
-pub remark_first : (line : List ℕ) (c : ℕ) (cs : List ℕ) → line ≡ c ∷ cs → Decides (eqb c 35) (Remark line)
-remark_first line c cs e = (
-  λ h. inr (cs, e ∙ ap (λ b. b ∷ cs) (eqb-true c 35 h)),
-  λ r. eq-eqb c 35 (first_is r),
-)
-  where
-    first_is : Remark line → c ≡ 35
-    first_is (inl n) = absurd (omega (arith, ap length (sym n ∙ e)))
-    first_is (inr p) = ap (λ (l : List ℕ). get_or l 0 0) (sym e ∙ p.1)

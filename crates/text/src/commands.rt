@@ -67,10 +67,7 @@ impl Command {
 fn asks_nothing(line: &[u8]) -> bool
     ensures { Decides result (Remark line.now) }
 {
-    match line.split_first() {
-        None => true,
-        Some((first, _)) => *first == b'#',
-    }
+    matches!(line, [] | [b'#', ..])
 }
 
 // The command of a key with numbers behind it, where it takes those.

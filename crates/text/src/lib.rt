@@ -7,7 +7,7 @@ mod rows;
 mod writing;
 
 pub use commands::Command;
-pub use writing::{Numbered, Row};
+pub use writing::{AsNumber, Row};
 
 #[cfg(test)]
 mod tests {

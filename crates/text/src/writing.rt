@@ -9,34 +9,34 @@ use std::fmt;
 use timing::Dot;
 
 // What stands in a row as one number.
-pub trait Numbered: Copy {
+pub trait AsNumber: Copy {
     ghost number: { Self → ℕ };
 
-    fn number(self) -> u32
+    fn as_number(self) -> u32
         ensures { result ≡ number self };
 }
 
-impl Numbered for u32 {
+impl AsNumber for u32 {
     ghost number = { λ n. n };
 
-    fn number(self) -> u32 {
+    fn as_number(self) -> u32 {
         self
     }
 }
 
-impl Numbered for u16 {
+impl AsNumber for u16 {
     ghost number = { λ n. n };
 
-    fn number(self) -> u32 {
+    fn as_number(self) -> u32 {
         u32::from(self)
     }
 }
 
 // 1 where it is set, and else 0.
-impl Numbered for bool {
+impl AsNumber for bool {
     ghost number = { flag };
 
-    fn number(self) -> u32 {
+    fn as_number(self) -> u32 {
         u32::from(self)
     }
 }
@@ -45,12 +45,12 @@ impl Numbered for bool {
 #[derive(Clone, Copy)]
 pub struct Row<'a, T>(pub &'a [T]);
 
-impl<'a, T: Numbered> fmt::Display for Row<'a, T> {
+impl<'a, T: AsNumber> fmt::Display for Row<'a, T> {
     ghost output = { λ row. Some (row_text_by T.number row.0.now) };
 
     fn fmt<W: fmt::Write>(&self, f: &mut fmt::Formatter<W>) -> fmt::Result {
         for item in self.0 {
-            write!(f, " {}", item.number())?;
+            write!(f, " {}", item.as_number())?;
         }
         Ok(())
     }
