@@ -73,26 +73,26 @@ fn state_why(plan: &Plan, state: &[u32], refusal: StateRefusal) -> Why
     } = plan.numbers();
     let room = plan.taken(tick).saturating_add(capacity);
     let pending = requested.saturating_sub(arrived);
-    Why::Counts(match refusal {
+    match refusal {
         StateRefusal::TooShort { .. } | StateRefusal::TooLong => {
-            return Why::StateLength { count: state.len() };
+            Why::StateLength { count: state.len() }
         }
-        StateRefusal::FrameOver => return Why::FrameOver { tick, ticks },
-        StateRefusal::PendingMark => return Why::Mark {
+        StateRefusal::FrameOver => Why::FrameOver { tick, ticks },
+        StateRefusal::PendingMark => Why::Mark {
             number: number_at(state, 3),
         },
-        StateRefusal::UnderrunMark => return Why::Mark {
+        StateRefusal::UnderrunMark => Why::Mark {
             number: number_at(state, 5),
         },
-        StateRefusal::ArrivedMore => CountsWhy::ArrivedMore { arrived, requested },
-        StateRefusal::PastFrame => CountsWhy::PastFrame { requested, dots },
-        StateRefusal::NoRoom => CountsWhy::PastRoom { requested, room },
-        StateRefusal::WaitedLong => CountsWhy::WaitedLong { waited, latency },
-        StateRefusal::NothingPending => CountsWhy::AllArrived { requested },
-        StateRefusal::PastBurst => CountsWhy::PastBurst { pending, burst },
-        StateRefusal::NotPending => CountsWhy::NotPending { requested, arrived },
-        StateRefusal::WaitedIdle => CountsWhy::WaitedIdle { waited },
-    })
+        StateRefusal::ArrivedMore => Why::Counts(CountsWhy::ArrivedMore { arrived, requested }),
+        StateRefusal::PastFrame => Why::Counts(CountsWhy::PastFrame { requested, dots }),
+        StateRefusal::NoRoom => Why::Counts(CountsWhy::PastRoom { requested, room }),
+        StateRefusal::WaitedLong => Why::Counts(CountsWhy::WaitedLong { waited, latency }),
+        StateRefusal::NothingPending => Why::Counts(CountsWhy::AllArrived { requested }),
+        StateRefusal::PastBurst => Why::Counts(CountsWhy::PastBurst { pending, burst }),
+        StateRefusal::NotPending => Why::Counts(CountsWhy::NotPending { requested, arrived }),
+        StateRefusal::WaitedIdle => Why::Counts(CountsWhy::WaitedIdle { waited }),
+    }
 }
 
 fn brought_why(state: &[u32], count: usize) -> Why

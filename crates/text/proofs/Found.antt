@@ -8,14 +8,14 @@ use Rattle.std.specs.Option.{option_map}
 use Rattle.std.proofs.ByRecursion.{all_from_every}
 use Rattle.std.proofs.lemmas.Option.{none-some}
 use Rattle.std.proofs.lemmas.List.Elements.{All-from_get_or}
-use Rattle.text.specs.Keyed.{key_text, Unkeyed, IsKeyed, IsKeyedBy}
+use Rattle.text.specs.Keyed.{key_text, Unkeyed, IsKeyed, IsCutBy}
 use Rattle.text.specs.declared.keys.Key.{Key}
 use Rattle.text.specs.declared.keys.Key.TheVariants.{Plan}
 use Rattle.text.proofs.Table.{all_keys, each}
 
 module _
     {S F : Type 0} {steps : S → Option (Bor Key) → S → Type 0} (g : Mut F (Bor Key × Unit {0}) (Option (Key × Bor (List ℕ)))) (f : F) (line : List ℕ) (p : Run steps)
-    (keeps : CallKeepsClosure g f) (cuts : (key : Bor Key) (r : Option (Key × Bor (List ℕ))) (q : F) → Called g f (key, tt) r q → IsKeyedBy key.now line r) (from : ItemsMapTo p (λ key. key.now) all_keys) where
+    (keeps : CallKeepsClosure g f) (cuts : (key : Bor Key) (r : Option (Key × Bor (List ℕ))) (q : F) → Called g f (key, tt) r q → IsCutBy key.now line r) (from : ItemsMapTo p (λ key. key.now) all_keys) where
   none : IsTrue p.whole → AllItemsGive p g f None → (k : ℕ) → k < length all_keys → Unkeyed line (get_or all_keys k Plan)
   none whole gives k l = at (p.at k) (from.2 k Plan (subst (λ n. k < n) (sym (from.1 whole)) l)) (gives keeps k)
     where

@@ -27,12 +27,13 @@ key_text Help = codes "help"
 abbrev pub Unkeyed : List ℕ → Key → Type 0
 Unkeyed line key = (tail : List ℕ) → line ≢ key_text key ++ tail
 
--- what looking for any keyword, or for one, may answer: it, and the rest of the line
+-- what looking for a keyword may answer: it, and the rest of the line
 abbrev pub IsKeyed : List ℕ → Option (Key × Bor (List ℕ)) → Type 0
 IsKeyed line r = MatchOption r ((key : Key) → Unkeyed line key) (λ p. line ≡ key_text p.0 ++ p.1.now)
 
-abbrev pub IsKeyedBy : Key → List ℕ → Option (Key × Bor (List ℕ)) → Type 0
-IsKeyedBy key line r = MatchOption r (Unkeyed line key) (λ p. line ≡ key_text p.0 ++ p.1.now)
+-- the same of one keyword
+abbrev pub IsCutBy : Key → List ℕ → Option (Key × Bor (List ℕ)) → Type 0
+IsCutBy key line r = MatchOption r (Unkeyed line key) (λ p. line ≡ key_text p.0 ++ p.1.now)
 
 -- zeros and ones as flags
 abbrev pub onto : Bool → Option (List Bool) → Option (List Bool)

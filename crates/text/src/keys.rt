@@ -1,6 +1,6 @@
 // The words that a command begins with. None begins another.
 ghost use Rattle.std.specs.Prelude.{◌≡◌};
-ghost use Rattle.text.specs.Keyed.{key_text, IsKeyed, IsKeyedBy};
+ghost use Rattle.text.specs.Keyed.{key_text, IsKeyed, IsCutBy};
 
 #[derive(Clone, Copy, Debug, PartialEq, Eq)]
 pub enum Key {
@@ -68,7 +68,7 @@ impl Key {
 
     // The same of this key alone.
     fn cut(self, line: &[u8]) -> Option<(Key, &[u8])>
-        ensures { IsKeyedBy self line.now result }
+        ensures { IsCutBy self line.now result }
     {
         let tail = line.strip_prefix(self.text().as_bytes())?;
         Some((self, tail))
