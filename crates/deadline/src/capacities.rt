@@ -5,7 +5,7 @@ ghost use Rattle.std.specs.Option.{MatchOption};
 use timing::{Numbers, Plan};
 
 // The least capacity by which a plan with these other numbers is in time; none where no capacity will do.
-#[tactic(auto, using(timing::proofs::Goods::good_says))]
+#[tactic(auto, using(timing::proofs::Goods::good_says, crate::proofs::Bounds::no_capacity))]
 pub fn least_capacity(plan: &Plan) -> Option<u32>
     ensures { MatchOption result (NoCapacity plan.now.numbers) (LeastCapacity plan.now.numbers) }
 {

@@ -25,7 +25,7 @@ fn settled(row: &[u32]) -> Plan
 }
 
 // The numbers that the other two conditions bound from below are `size` or more; none where such numbers are no plan.
-#[tactic(auto, using(std::proofs::lemmas::Bool::Decides::nat_tests), unfolding(timing::specs::Good::good, timing::specs::Row::numbers_in))]
+#[tactic(auto, using(std::proofs::lemmas::Bool::Decides::nat_tests, crate::proofs::Bounds::rate_tight, crate::proofs::Bounds::room_tight, crate::proofs::Bounds::lead_tight), unfolding(timing::specs::Good::good, timing::specs::Row::numbers_in))]
 pub fn tight_plans(size: u32) -> Option<TightPlans>
     ensures { MatchOption result (65534 < size) (Tight size) }
 {
@@ -41,7 +41,7 @@ pub fn tight_plans(size: u32) -> Option<TightPlans>
 }
 
 // One line with no blanking before it: two that are in time, three that miss one condition each, and one that is not in time and still has its dots on a short line, with the same on a long one.
-#[tactic(auto, unfolding(timing::specs::Good::good, timing::specs::Row::numbers_in))]
+#[tactic(auto, using(crate::proofs::Computed::worked), unfolding(timing::specs::Good::good, timing::specs::Row::numbers_in))]
 pub fn worked_plans() -> [Plan; 7]
     ensures numbers { map (λ (q : GoodPlan). q.numbers) result ≡ worked_numbers }
     ensures worked { Worked }

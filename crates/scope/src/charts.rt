@@ -10,6 +10,7 @@ use arrayvec::ArrayVec;
 use timing::Plan;
 
 // The fill at the next tick's end.
+#[tactic(auto, unfolding(crate::specs::Fill::sample_in))]
 fn next_fill(probe: &mut Probe) -> u32
     requires { tick_in probe.old.feeder.counts < frame_ticks (plan_in probe.old.feeder.counts) }
     ensures { Filled probe.old.feeder.counts result probe.new.feeder.counts }
@@ -51,6 +52,7 @@ pub struct Chart {
 impl Chart {
     pub const WIDTH: u32 = 80;
 
+    #[tactic(auto, using(crate::proofs::Bands::frame_some))]
     pub fn of(plan: Plan) -> Chart
         ensures { Charted plan.numbers result }
     {

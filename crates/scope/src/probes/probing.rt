@@ -21,6 +21,7 @@ fn dot_of(outcome: Outcome, next: u32) -> Option<u32>
 
 impl Probe {
     // At a frame's start.
+    #[tactic(auto, using(crate::proofs::Seen::late_start))]
     pub fn start(plan: Plan) -> Probe
         ensures plan { result.feeder.counts.scan.plan ≡ plan }
         ensures tick { tick_in result.feeder.counts ≡ 0 }

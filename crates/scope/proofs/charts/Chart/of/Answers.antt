@@ -6,12 +6,6 @@ use Rattle.scope.specs.Fill.{Spans}
 use Rattle.scope.proofs.Bands.{columns_none, columns_more, column_on, frame_some, charted}
 use Rattle.scope.proofs.charts.Chart.of.Goals as goal
 
-pub nonzero_div-each : goal.nonzero_div-each
-nonzero_div-each c = omega (arith, c.min-count.ensures, c.frame_ticks-ticks.ensures, frame_some _ c.args.plan.ok)
-
-pub nonzero_rem-longer : goal.nonzero_rem-longer
-nonzero_rem-longer c = omega (arith, c.min-count.ensures, c.frame_ticks-ticks.ensures, frame_some _ c.args.plan.ok)
-
 pub loop-column-init : goal.loop-column-init
 loop-column-init c = record {
   plan = refl;
