@@ -7,7 +7,7 @@ use feeder::Feeder;
 
 mod plays;
 
-#[derive(Clone, Copy)]
+#[derive(Clone, Copy, Debug, PartialEq, Eq)]
 pub struct Fifo {
     feeder: Feeder,
     head: usize,

@@ -2,6 +2,7 @@
 ghost use Rattle.std.specs.Prelude.{◌≡◌, ◌%◌, ◌<◌, ◌≤◌, length};
 ghost use Rattle.fifo.specs.Ring.{filled};
 
+// Not by `bring`, whose dots are a memory's: these are there, and the ring is pinned whole.
 // Writes the dots from dot `first` of the frame on, whose place is `at`: up to the ring's end, and the others from its start.
 pub(crate) fn fill(ring: &mut [u16], first: u32, at: usize, brought: &[u16])
     requires few { length brought.now ≤ length ring.old }

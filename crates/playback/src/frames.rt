@@ -36,7 +36,7 @@ fn serve<M: Scripted, S: Screen>(
     }
 }
 
-// A frame, and the first of its ticks in which a dot is missing.
+// A frame, and the first of its ticks in which a dot is missing. The ring, the memory and the screen are lent on as they came: a struct of the three would be made to be taken apart again.
 fn frame<M: Scripted, S: Screen>(
     plan: Plan,
     ring: &mut [u16],

@@ -43,7 +43,7 @@ fn measure(probe: &mut Probe, ticks: u32) -> Span
 }
 
 // The frame's ticks in columns of one length, the first of them one tick longer where it does not divide evenly.
-#[derive(Debug, Drop, PartialEq, Eq)]
+#[derive(Clone, Debug, Drop, PartialEq, Eq)]
 pub struct Chart {
     // as many as `WIDTH`, or as many as the frame has ticks
     pub columns: ArrayVec<Span, 80>,

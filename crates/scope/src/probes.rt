@@ -6,7 +6,7 @@ use feeder::Feeder;
 
 mod probing;
 
-#[derive(Clone, Copy)]
+#[derive(Clone, Copy, Debug, PartialEq, Eq)]
 pub struct Probe {
     feeder: Feeder,
     ghost latest: { feeder.counts.progress ≡ late feeder.counts },

@@ -18,7 +18,7 @@ pub struct Swept {
 }
 
 // Tries the plan of each row, where no trial of theirs disagrees with the rule.
-pub fn try_rows<R: Fn(u32) -> [u32; 7], T: Fn(Plan) -> Trial>(
+pub(crate) fn try_rows<R: Fn(u32) -> [u32; 7], T: Fn(Plan) -> Trial>(
     rows: u32,
     row_at: R,
     attempt: T,

@@ -20,7 +20,7 @@ pub struct Position {
 
 impl Position {
     // Before a tick of a frame, or at its end.
-    pub fn before(plan: &Plan, tick: u32) -> Position
+    pub(crate) fn before(plan: &Plan, tick: u32) -> Position
         requires { tick ≤ frame_ticks plan.now.numbers }
         ensures tracks { Tracks plan.now.numbers result }
         ensures tick { result.tick ≡ tick }
