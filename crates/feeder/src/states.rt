@@ -41,8 +41,13 @@ impl Progress {
     pub(crate) fn note(self, takes: bool, taken: u32) -> Progress
         ensures { result ≡ noted (takes && nat_le self.arrived taken) self }
     {
-        let underrun = self.underrun || (takes && self.arrived <= taken);
-        Progress { underrun, ..self }
+        if takes && self.arrived <= taken {
+            return Progress {
+                underrun: true,
+                ..self
+            };
+        }
+        self
     }
 
     // A burst is requested, or what is left of the frame, where there is room for it.
