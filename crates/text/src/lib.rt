@@ -77,6 +77,18 @@ mod tests {
     }
 
     #[test]
+    fn rows_of_each_kind_of_number(rt: HostRuntime) -> Result<(), Fail> {
+        let heap = rt.alloc();
+        assert_eq!(rt;
+            Row(&[0u32, 4294967295]).to_string(heap)?.as_str(),
+            " 0 4294967295"
+        );
+        assert_eq!(rt; Row(&[65535u16, 7]).to_string(heap)?.as_str(), " 65535 7");
+        assert_eq!(rt; Row(&[true, false]).to_string(heap)?.as_str(), " 1 0");
+        Ok(())
+    }
+
+    #[test]
     fn unreadable_lines(rt: HostRuntime) -> Result<(), Fail> {
         let lines = [
             " ",
