@@ -18,7 +18,7 @@ $enddefinitions $end
 ";
 
 // A variable with what it holds.
-#[derive(Clone, Copy, PartialEq)]
+#[derive(Clone, Copy, Debug, PartialEq, Eq)]
 enum Variable {
     Wire(char, bool),
     Number(char, u32),

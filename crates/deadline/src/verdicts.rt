@@ -31,7 +31,7 @@ pub enum Verdict {
 }
 
 impl Verdict {
-    // The number by which the verdict is known outside.
+    // The number by which the verdict is known outside, where numbers are a rule of the interface.
     pub fn number(&self) -> u64
         ensures { result ≡ number_of self.now }
     {

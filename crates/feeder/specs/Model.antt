@@ -73,6 +73,12 @@ unfoldable pub outcome : Demand → Bool → ℕ → Progress → Outcome
 outcome d willing t f =
     cond (uses d t) (cond (misses d t (after_answer d willing f)) (Missing (requests d willing t f)) (Dot (requests d willing t f))) (Dark (requests d willing t f))
 
+-- whether the panel takes a dot, and whether it is missing
+abbrev pub takes_dot : Outcome → Bool
+takes_dot (Dot n) = true
+takes_dot (Dark n) = false
+takes_dot (Missing n) = true
+
 abbrev pub is_missing : Outcome → Bool
 is_missing (Dot n) = false
 is_missing (Dark n) = false

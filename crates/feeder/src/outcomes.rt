@@ -1,6 +1,6 @@
 // What a tick gives.
 ghost use Rattle.std.specs.Prelude.{◌≡◌, if◌then◌else◌};
-ghost use Rattle.feeder.specs.Model.{is_missing};
+ghost use Rattle.feeder.specs.Model.{takes_dot, is_missing};
 ghost use Rattle.feeder.specs.declared.outcomes.Outcome.TheVariants.{Dot, Dark, Missing};
 
 // What the panel gets in a tick, and how many dots are requested in it.
@@ -26,6 +26,12 @@ impl Outcome {
         } else {
             Outcome::Dot { requested }
         }
+    }
+
+    pub fn takes_dot(&self) -> bool
+        ensures { result ≡ takes_dot self.now }
+    {
+        !matches!(self, Outcome::Dark { .. })
     }
 
     pub fn is_missing(&self) -> bool

@@ -21,11 +21,8 @@ fn misses_next(feeder: &mut Feeder, willing: bool) -> bool
     requires { tick_in feeder.old.counts < frame_ticks (plan_in feeder.old.counts) }
     ensures { Ran feeder.old.counts willing result feeder.new.counts }
 {
-    // not `is_some_and`: told that the frame goes on, the loop is a quarter faster
-    let Some(outcome) = feeder.follow(willing) else {
-        unreachable!()
-    };
-    outcome.is_missing()
+    // `is_some_and` was tried, and the frame's loop takes 1.3 times as long: it is not told that the frame goes on
+    feeder.follow(willing).unwrap().is_missing()
 }
 
 // The first tick in which a dot is missing, by a memory that is willing in the ticks that the flags say and in none past them. It answers where it must all the same.

@@ -1,5 +1,5 @@
 -- A tick of counts, a ring and what is brought is the one that is promised.
-use Rattle.std.proofs.Common.{◌≡◌, ℕ, ◌+◌, ◌-◌, ◌%◌, ◌<◌, ◌≤◌, Bool, true, false, cond, List, length, get_or, None, Ok, sym, refl, ap, ◌∙◌, subst, ap₂, subst₂, ⊎_elim, add-one, arith}
+use Rattle.std.proofs.Common.{◌≡◌, ℕ, ◌+◌, ◌-◌, ◌%◌, ◌<◌, ◌≤◌, Bool, true, false, cond, List, length, get_or, None, Ok, sym, refl, ap, ◌∙◌, subst, ap₂, subst₂, ⊎_elim, add-one, arith, Err, Result, IsOk}
 use Rattle.std.proofs.lemmas.Bool.{cond_both, cases_lt}
 use Rattle.std.proofs.lemmas.Bool.Decides.{nat_tests}
 use Rattle.timing.specs.Frame.{frame_ticks, taken}
@@ -11,7 +11,7 @@ use Rattle.feeder.specs.Feed.{Fed}
 use Rattle.feeder.specs.Lent.{tick_at, progress_at, state_refusal, state_of}
 use Rattle.feeder.specs.Model.{Demand, answers, answered, waiting, after_answer, misses, outcome}
 use Rattle.feeder.specs.Panel.{demand_of, Reached}
-use Rattle.feeder.specs.Step.{plan_in, tick_in, Moved, Refused as StepRefuses}
+use Rattle.feeder.specs.Step.{plan_in, tick_in, Moved, Steps}
 use Rattle.feeder.specs.declared.refusals.StepRefusal.{StepRefusal}
 use Rattle.feeder.specs.declared.refusals.StepRefusal.TheVariants.{FrameOver, NotPending, Late}
 use Rattle.feeder.specs.declared.counts.Counts.{Counts}
@@ -66,11 +66,12 @@ few c m n going =
     ⊎_elim (λ (some : 0 < n). omega (arith, going.whole some, k.burst, g.burst_most, going.size)) (λ (none : n ≤ 0). omega arith) (cases_lt 0 n)
 
 -- and such a tick is never refused
-pub never_refused : (c : Counts) (m n : ℕ) (e : StepRefusal) → Going c m n → StepRefuses c (brings n) e → ⊥
+pub never_refused : (c c₁ : Counts) (m n : ℕ) (r : Result Outcome StepRefusal) → Going c m n → Steps c (brings n) r c₁ → IsOk r
 unfolding answers demand_of
-never_refused c m n FrameOver going h = omega (arith, going.allowed.0)
-never_refused c m n NotPending going h = let w = h.1 in let off = h.2 in let allowed = going.allowed.1 in grind (arith, nat_tests)
-never_refused c m n (Late t) going h = let w = h.1 in let on = h.2 in let due = h.3 in let allowed = going.allowed.1 in grind (arith, nat_tests)
+never_refused c c₁ m n (Ok o) going h = refl
+never_refused c c₁ m n (Err FrameOver) going h = absurd (omega (arith, going.allowed.0, h.1))
+never_refused c c₁ m n (Err NotPending) going h = let w = h.1.1 in let off = h.1.2 in let allowed = going.allowed.1 in grind (arith, nat_tests)
+never_refused c c₁ m n (Err (Late t)) going h = let w = h.1.1 in let on = h.1.2 in let due = h.1.3 in let allowed = going.allowed.1 in grind (arith, nat_tests)
 
 module _ (c c₁ : Counts) (r b : List ℕ) (o : Outcome) (going : Going c (length r) (length b)) (moved : Moved c (brings (length b)) o c₁) where
   after_brought : (after_answer (demand_of (plan_in c)) (brings (length b)) c.progress).arrived ≡ c.progress.arrived + length b

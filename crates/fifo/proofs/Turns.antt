@@ -1,5 +1,6 @@
 -- A tick of the typed FIFO: its places go on with the feeder, and its ring goes on holding the memory's picture.
-use Rattle.std.proofs.Common.{◌≡◌, ℕ, suc, ◌+◌, ◌-◌, ◌%◌, ◌<◌, ◌≤◌, Bool, true, false, cond, leb, List, length, get_or, Ok, Err, sym, refl, ap, ◌∙◌, subst, ap₂, ⊎_elim, mod-lt, arith}
+use Rattle.std.proofs.Common.{◌≡◌, ℕ, suc, ◌+◌, ◌-◌, ◌%◌, ◌<◌, ◌≤◌, Bool, true, false, cond, leb, List, length, get_or, Ok, Err, sym, refl, ap, ◌∙◌, subst, ap₂, ⊎_elim, mod-lt, arith, Result, IsOk}
+use Rattle.std.specs.Int.{from_bool}
 use native.Mathlib.Nat.{mod-add-mod}
 use Rattle.std.proofs.lemmas.Bool.{cases_Bool, leb-false}
 use Rattle.timing.specs.Frame.{takes, taken, frame_ticks}
@@ -8,7 +9,7 @@ use Rattle.timing.specs.declared.plans.Plan.{Plan}
 use Rattle.timing.proofs.Curves.{taken_when, taken_unless}
 use Rattle.timing.proofs.Goods.{good_says, small}
 use Rattle.feeder.specs.Feed.{Follows}
-use Rattle.feeder.specs.Model.{answers, after_answer, uses, misses, outcome, requests}
+use Rattle.feeder.specs.Model.{answers, after_answer, uses, misses, outcome, requests, takes_dot}
 use Rattle.feeder.specs.Panel.{demand_of}
 use Rattle.feeder.specs.Step.{plan_in, tick_in, Moved, Steps}
 use Rattle.feeder.specs.declared.counts.Counts.{Counts}
@@ -152,8 +153,9 @@ module _ (a : Fifo) (c₁ : Counts) (r r₁ : List ℕ) (script : Script) (broug
       }
 
 -- an answer that the memory may give is never refused before the frame's end
-pub never_stuck : (c c₁ : Counts) (willing brought : Bool) (e : StepRefusal) → brought ≡ answers (demand_of (plan_in c)) willing c.progress → Steps c brought (Err e) c₁ → tick_in c < frame_ticks (plan_in c) → ⊥
-never_stuck c c₁ willing brought e answer h inside = omega (arith, (follows c c₁ willing brought (Err e) answer h).0)
+pub never_stuck : (c c₁ : Counts) (willing brought : Bool) (r : Result Outcome StepRefusal) → brought ≡ answers (demand_of (plan_in c)) willing c.progress → Steps c brought r c₁ → tick_in c < frame_ticks (plan_in c) → IsOk r
+never_stuck c c₁ willing brought (Ok o) answer h inside = refl
+never_stuck c c₁ willing brought (Err e) answer h inside = absurd (omega (arith, (follows c c₁ willing brought (Err e) answer h).0))
 
 -- what the reading of a burst asks
 pub record Brings (f : Progress) (m at : ℕ) : Type 0 where
@@ -173,3 +175,8 @@ pub takes_few : (o : Outcome) → takes_of o ≤ 1
 takes_few (given.Dot n) = omega arith
 takes_few (given.Dark n) = omega arith
 takes_few (given.Missing n) = omega arith
+
+pub takes_as : (o : Outcome) → from_bool (takes_dot o) ≡ takes_of o
+takes_as (given.Dot n) = refl
+takes_as (given.Dark n) = refl
+takes_as (given.Missing n) = refl

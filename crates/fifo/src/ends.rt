@@ -16,7 +16,7 @@ pub trait Willing {
 }
 
 // Always takes as long as it may.
-#[derive(Clone, Copy, Debug)]
+#[derive(Clone, Copy, Debug, PartialEq, Eq)]
 pub struct Latest;
 
 impl Willing for Latest {
@@ -28,7 +28,7 @@ impl Willing for Latest {
 }
 
 // Answers in the tick after the request.
-#[derive(Clone, Copy, Debug)]
+#[derive(Clone, Copy, Debug, PartialEq, Eq)]
 pub struct AtOnce;
 
 impl Willing for AtOnce {
@@ -40,7 +40,7 @@ impl Willing for AtOnce {
 }
 
 // Is willing in the ticks of each frame that its list says, and in none past it.
-#[derive(Clone, Copy, Debug)]
+#[derive(Clone, Copy, Debug, PartialEq, Eq)]
 pub struct ByList<'a>(pub &'a [bool]);
 
 impl<'a> Willing for ByList<'a> {
@@ -52,7 +52,7 @@ impl<'a> Willing for ByList<'a> {
 }
 
 // A memory with a picture, the same in each frame.
-#[derive(Clone, Copy, Debug)]
+#[derive(Clone, Copy, Debug, PartialEq, Eq)]
 pub struct Answering<P, W> {
     pub picture: P,
     pub willing: W,

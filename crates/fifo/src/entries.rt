@@ -45,7 +45,7 @@ fn is_late(counts: &Counts, brought: usize) -> bool
     counts.answers(false)
 }
 
-// The same, and what is brought may be. The first that is wrong is the refusal.
+// The same, and what is brought may be. The first that is wrong is the refusal. Parameters and no struct, as a circuit's program lends them to `tick`.
 pub fn accept(plan: &[u32], state: &[u32], length: usize, brought: usize) -> Result<Counts, Refusal>
     ensures { MatchResult result (Ready plan.now state.now length brought) (Refuses plan.now state.now length brought) }
 {
@@ -70,13 +70,9 @@ fn advance(mut counts: Counts, state: &mut [u32], ring: &mut [u16], brought: &[u
     let next = counts.taken() as usize % ring.len();
     fill(ring, arrived, arrived as usize % ring.len(), brought);
     let dot = ring[next];
-    match counts.step(!brought.is_empty()) {
-        Ok(outcome) => {
-            state.copy_from_slice(&counts.state());
-            Exchange::of(outcome, dot)
-        }
-        Err(_) => unreachable(),
-    }
+    let outcome = counts.step(!brought.is_empty()).unwrap();
+    state.copy_from_slice(&counts.state());
+    Exchange::of(outcome, dot)
 }
 
 // One tick of the plan's frame: the state's six numbers and the ring go on by it. What is refused changes nothing.

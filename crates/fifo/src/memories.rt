@@ -2,7 +2,7 @@
 ghost use Rattle.std.specs.Prelude.{◌≡◌, ℕ, ◌+◌, ◌<◌, true, length, slice_index};
 ghost use Rattle.fifo.specs.Script.{Script};
 
-// A memory that answers when it likes within its time.
+// A memory that answers when it likes within its time. That it keeps its script stands wherever one is lent: a fact of two states is no type's.
 pub trait Memory {
     // its dots, and what it may say, in the frame that is played and in those after it
     ghost script: { Self → Script };

@@ -19,7 +19,7 @@ pub trait Picture {
 }
 
 // Dots that are given; past the last, dots of 0.
-#[derive(Clone, Copy, Debug)]
+#[derive(Clone, Copy, Debug, PartialEq, Eq)]
 pub struct Stored<'a> {
     pub dots: &'a [u16],
 }
@@ -33,7 +33,7 @@ impl<'a> Picture for Stored<'a> {
 }
 
 // Dots that are numbered from 0, modulo 65,536.
-#[derive(Clone, Copy, Debug)]
+#[derive(Clone, Copy, Debug, PartialEq, Eq)]
 pub struct Numbered;
 
 impl Picture for Numbered {

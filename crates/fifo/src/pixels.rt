@@ -30,7 +30,7 @@ pub struct Exchange {
 }
 
 impl Exchange {
-    // Of a feeder's outcome, with the dot that stands at the place of the one taken.
+    // Of a feeder's outcome, with the dot that stands at the place of the one taken; no `From` of a pair, which would name neither.
     pub fn of(outcome: Outcome, dot: u16) -> Exchange
         ensures { result ≡ exchange_of outcome dot }
     {

@@ -7,6 +7,7 @@ use std::str::from_utf8;
 use text::Command;
 use timing::Plan;
 
+// Fewer commands than a session's, so another text.
 const HELP: &str =
     "plan W H L P R B T   keep a plan: dots in a line, lines, ticks before a line and before the picture, room, at once, latest
 when X Y             the tick in which dot X of line Y is taken
@@ -16,7 +17,7 @@ run by 1 0 0 1       a picture, by a memory that is willing in the ticks marked 
 help                 this list
 ";
 
-#[derive(Drop)]
+#[derive(Debug, Drop)]
 pub enum Answer {
     // the line asks nothing
     Silence,
@@ -39,10 +40,7 @@ fn keep(kept: &mut Option<Plan>, row: &[u32]) -> Reply {
     match Plan::new(row) {
         Ok(plan) => {
             *kept = Some(plan);
-            Reply::Plan {
-                ticks: plan.frame_ticks(),
-                dots: plan.frame_dots(),
-            }
+            Reply::from(plan)
         }
         Err(refusal) => Reply::Refused(Turned::plan(row, refusal)),
     }
@@ -76,10 +74,11 @@ pub fn reply(
     number: usize,
     line: &[u8],
 ) -> Result<Answer, AllocError> {
-    let command = match from_utf8(line) {
-        Ok(_) => Command::read(heap, line)?,
+    let command = if from_utf8(line).is_ok() {
+        Command::read(heap, line)?
+    } else {
         // also where it is a remark
-        Err(_) => None,
+        None
     };
     let unreadable = Answer::Say(Reply::Refused(Turned::text(number, Why::NoCommand)));
     Ok(

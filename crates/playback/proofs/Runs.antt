@@ -1,5 +1,5 @@
 -- Frames run tick by tick follow the model from its start, and the screen gets what it says.
-use Rattle.std.proofs.Common.{◌≡◌, ℕ, zero, suc, ◌+◌, ◌<◌, ◌≤◌, Bool, true, false, List, length, Some, None, Option, sym, refl, ap, ◌∙◌, subst, subst₂, ⊎_elim, add-zero, arith}
+use Rattle.std.proofs.Common.{◌≡◌, ℕ, zero, suc, ◌+◌, ◌<◌, ◌≤◌, Bool, true, false, List, length, Some, None, Option, sym, refl, ap, ◌∙◌, subst, subst₂, ⊎_elim, add-zero, arith, Ok, Err, Result, IsOk}
 use Rattle.std.proofs.lemmas.Bool.{cases_lt, or_from, or_right}
 use Rattle.std.specs.Option.{option_or}
 use Rattle.std.specs.Bool.{then_some}
@@ -16,7 +16,7 @@ use Rattle.feeder.specs.declared.outcomes.Outcome.TheVariants as given
 use Rattle.feeder.specs.declared.states.Progress.{Progress}
 use Rattle.feeder.proofs.Frames.{ran}
 use Rattle.feeder.proofs.Laws.{tick_underrun}
-use Rattle.fifo.specs.Frame.{Kept, Stops, Played}
+use Rattle.fifo.specs.Frame.{Kept, Plays, Played}
 use Rattle.playback.specs.Frame.{pixel_of, Served, pixel_in, Shown, Frames, underrun_in, FirstOf, PlayedAll}
 use Rattle.fifo.specs.Gives.{exchange_of, is_missing}
 use Rattle.fifo.specs.Script.{Script, willing, next_frame, after_frames}
@@ -27,12 +27,13 @@ use Rattle.fifo.specs.declared.refusals.Refusal.TheVariants.{Plan as Plan', Stat
 use Rattle.playback.specs.declared.underruns.Underrun.{Underrun}
 
 -- a tick of the frame with a ring that fits is not refused
-pub never_stops : (a : Fifo) (r : List ℕ) (e : Refusal) → length r ≡ (plan_in a.feeder.counts).capacity → tick_in a.feeder.counts < frame_ticks (plan_in a.feeder.counts) → Stops a r e → ⊥
-never_stops a r (Plan' e) size inside h = h
-never_stops a r (State e) size inside h = omega (arith, h.1)
-never_stops a r (Ring k) size inside h = h.0 size
-never_stops a r (Brought k) size inside h = h
-never_stops a r (Late t) size inside h = h
+pub never_stops : (script : Script) (a b : Fifo) (r r₁ : List ℕ) (x : Result Pixel Refusal) → length r ≡ (plan_in a.feeder.counts).capacity → tick_in a.feeder.counts < frame_ticks (plan_in a.feeder.counts) → Plays script a r x b r₁ → IsOk x
+never_stops script a b r r₁ (Ok x) size inside h = refl
+never_stops script a b r r₁ (Err (Plan' e)) size inside h = absurd h.1
+never_stops script a b r r₁ (Err (State e)) size inside h = absurd (omega (arith, h.1.1))
+never_stops script a b r r₁ (Err (Ring k)) size inside h = absurd (h.1.0 size)
+never_stops script a b r r₁ (Err (Brought k)) size inside h = absurd h.1
+never_stops script a b r r₁ (Err (Late t)) size inside h = absurd h.1
 
 -- a pixel is missing just where the outcome is
 missing_pixel : (o : Outcome) (x : ℕ) → is_missing (exchange_of o x).pixel ≡ model.is_missing o

@@ -27,13 +27,9 @@ fn serve<M: Scripted, S: Screen>(
     ensures same { M.Memory.script memory.new ≡ M.Memory.script memory.old }
     ensures served { Served S.Screen.accepts (M.Memory.script memory.old) fifo.old screen.old result fifo.new ring.new screen.new }
 {
-    match fifo.step(ring, memory) {
-        Ok(pixel) => {
-            screen.show(pixel);
-            pixel.is_missing()
-        }
-        Err(_) => unreachable(),
-    }
+    let pixel = fifo.step(ring, memory).unwrap();
+    screen.show(pixel);
+    pixel.is_missing()
 }
 
 // A frame, and the first of its ticks in which a dot is missing. The ring, the memory and the screen are lent on as they came: a struct of the three would be made to be taken apart again.

@@ -4,7 +4,7 @@ use Rattle.timing.specs.Frame.{takes, taken}
 use Rattle.timing.specs.declared.numbers.Numbers.{Numbers}
 use Rattle.timing.specs.declared.plans.Plan.{Plan}
 use Rattle.feeder.specs.Feed.{Over, Follows}
-use Rattle.feeder.specs.Model.{begun, after, after_tick, after_answer, misses, uses, outcome, requests, latest, is_missing}
+use Rattle.feeder.specs.Model.{begun, after, after_tick, after_answer, misses, uses, outcome, requests, latest, is_missing, takes_dot}
 use Rattle.feeder.specs.Panel.{demand_of}
 use Rattle.feeder.specs.Step.{plan_in, tick_in}
 use Rattle.feeder.specs.declared.counts.Counts.{Counts}
@@ -13,6 +13,7 @@ use Rattle.feeder.specs.declared.outcomes.Outcome.TheVariants as given
 use Rattle.feeder.specs.declared.states.Progress.{Progress}
 use Rattle.feeder.proofs.Frames.{ran}
 use Rattle.feeder.proofs.Plans.{by_plan}
+use Rattle.std.specs.Bool.{then_some}
 use Rattle.scope.specs.Fill.{fill, dot_of, sample_in, Sampled}
 use Rattle.scope.specs.Late.{late}
 use Rattle.scope.specs.declared.samples.Sample.{Sample}
@@ -20,6 +21,11 @@ use Rattle.scope.specs.declared.samples.Sample.{Sample}
 pub late_start : (c : Counts) → tick_in c ≡ 0 → c.progress ≡ begun → c.progress ≡ late c
 unfolding after
 late_start c tick progress = progress ∙ sym (ap (after (demand_of (plan_in c)) latest) tick)
+
+dot_as : (o : Outcome) (k : ℕ) → then_some (takes_dot o) k ≡ dot_of o k
+dot_as (given.Dot n) k = refl
+dot_as (given.Dark n) k = refl
+dot_as (given.Missing n) k = refl
 
 module _ (a b : Counts) (o : Outcome) (follows : Follows a false o b) (here : a.progress ≡ late a) where
   -- one tick on
@@ -44,11 +50,11 @@ module _ (a b : Counts) (o : Outcome) (follows : Follows a false o b) (here : a.
       ∙ dot_given (uses d t) (misses d t (after_answer d false a.progress)) (requests d false t a.progress) (taken (plan_in a) t)
       ∙ ap (λ u. cond u (Some (taken (plan_in a) t)) None) ((by_plan (plan_in a)).uses_is t)
 
-  pub sampled : (s : Sample) → s.tick ≡ tick_in a → s.dot ≡ dot_of o (taken (plan_in a) (tick_in a)) → s.missing ≡ is_missing o →
+  pub sampled : (s : Sample) → s.tick ≡ tick_in a → s.dot ≡ then_some (takes_dot o) (taken (plan_in a) (tick_in a)) → s.missing ≡ is_missing o →
       s.requested ≡ b.progress.requested → s.arrived ≡ b.progress.arrived → s.pending ≡ b.progress.pending → s.fill ≡ b.progress.arrived - taken (plan_in b) (tick_in b) → Sampled a s b
   unfolding sample_in fill
   sampled s tick dot missing requested arrived pending level =
-      let dots = dot ∙ dot_seen in
+      let dots = dot ∙ dot_as o _ ∙ dot_seen in
       let misses_is = missing ∙ (ran a b false o follows).missing_is ∙ ap (λ f. misses (demand_of (plan_in a)) (tick_in a) (after_answer (demand_of (plan_in a)) false f)) here in
       let asked = requested ∙ ap (λ (f : Progress). f.requested) on in
       let come = arrived ∙ ap (λ (f : Progress). f.arrived) on in

@@ -9,16 +9,13 @@ use super::spans::Span;
 use arrayvec::ArrayVec;
 use timing::Plan;
 
-// The fill at the next tick's end.
+// The fill at the next tick's end. That there is one is known of a loop's count, and no type's.
 #[tactic(auto, unfolding(crate::specs::Fill::sample_in))]
 fn next_fill(probe: &mut Probe) -> u32
     requires { tick_in probe.old.feeder.counts < frame_ticks (plan_in probe.old.feeder.counts) }
     ensures { Filled probe.old.feeder.counts result probe.new.feeder.counts }
 {
-    match probe.sample() {
-        Some(sample) => sample.fill,
-        None => unreachable(),
-    }
+    probe.sample().unwrap().fill
 }
 
 // Over the next ticks, one at least.

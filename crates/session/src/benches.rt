@@ -77,10 +77,10 @@ impl Bench {
     pub(crate) fn tick(&mut self, heap: Global, row: &[u32]) -> Result<Reply, Failure> {
         let brought = as_dots(heap, row)?;
         let plan = <[u32; 7]>::from(self.plan.numbers());
-        match try_tick(&plan, &mut self.state, &mut self.ring, &brought) {
-            Ok(exchange) => Ok(Reply::Gives(exchange)),
-            Err(refusal) => Err(Turned::lent(&self.plan, &self.state, refusal).into()),
-        }
+        let exchange = try_tick(&plan, &mut self.state, &mut self.ring, &brought).map_err(
+            |refusal| Turned::lent(&self.plan, &self.state, refusal),
+        )?;
+        Ok(Reply::Gives(exchange))
     }
 
     pub(crate) fn next(&self, heap: Global) -> Result<Reply, Failure> {

@@ -9,7 +9,7 @@ use super::turned::Turned;
 use super::whys::Why;
 use std::alloc::AllocError;
 
-#[derive(Drop)]
+#[derive(Debug, Drop)]
 pub(crate) enum Failure {
     Memory(AllocError),
     // the line is at fault, and not what it lends

@@ -3,13 +3,15 @@ ghost use Rattle.std.specs.Prelude.{◌≡◌, Some};
 ghost use Rattle.session.specs.Help.{help_text};
 ghost use Rattle.session.specs.Parts.{verdict_text, pixel_text, numbers_text};
 ghost use Rattle.session.specs.Replies.{reply_text};
+ghost use Rattle.session.specs.declared.replies.Reply.TheVariants.{Plan as ofPlan};
+ghost use Rattle.timing.specs.Frame.{frame_ticks, frame_dots};
 
 use super::turned::Turned;
 use deadline::Verdict;
 use fifo::{Exchange, Pixel};
 use std::fmt;
 use text::Row;
-use timing::Dot;
+use timing::{Dot, Plan};
 
 #[derive(Debug, PartialEq, Drop)]
 pub enum Reply {
@@ -28,6 +30,17 @@ pub enum Reply {
     // the first tick of a frame in which a dot was missing
     Missing(Option<u32>),
     Refused(Turned),
+}
+
+impl From<Plan> for Reply {
+    ghost from_gives = { λ plan reply. reply ≡ ofPlan (frame_ticks plan.numbers) (frame_dots plan.numbers) };
+
+    fn from(plan: Plan) -> Reply {
+        Reply::Plan {
+            ticks: plan.frame_ticks(),
+            dots: plan.frame_dots(),
+        }
+    }
 }
 
 const HELP: &str =

@@ -39,10 +39,7 @@ pub struct Session {
 fn keep(heap: Global, bench: &mut Option<Bench>, row: &[u32]) -> Result<Reply, Failure> {
     let plan = Plan::new(row).map_err(|refusal| Turned::plan(row, refusal))?;
     *bench = Some(Bench::new(heap, plan)?);
-    Ok(Reply::Plan {
-        ticks: plan.frame_ticks(),
-        dots: plan.frame_dots(),
-    })
+    Ok(Reply::from(plan))
 }
 
 impl Session {
@@ -99,9 +96,7 @@ impl Session {
         let Some(command) = Command::read(heap, line)? else {
             return Failure::from(Why::NoCommand).answer(number);
         };
-        match self.respond(heap, command) {
-            Ok(answer) => Ok(answer),
-            Err(failure) => failure.answer(number),
-        }
+        self.respond(heap, command)
+            .or_else(|failure| failure.answer(number))
     }
 }

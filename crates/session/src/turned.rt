@@ -28,7 +28,7 @@ impl fmt::Display for Turned {
     }
 }
 
-// A number of a row by its place, and 0 past the row's end.
+// A number of a row by its place, and 0 past the row's end: a state that is turned away may have any length.
 fn number_at(row: &[u32], place: usize) -> u32
     ensures { result ≡ slice_index row.now place }
 {

@@ -105,7 +105,7 @@ fn run_by(heap: Global, row: &[u32]) -> Result<Option<Command>, AllocError>
     Ok(flags(heap, row)?.map(Command::RunBy))
 }
 
-// Zeros and ones as flags.
+// Zeros and ones as flags. The loop of `numbers`, over other items: one function of both would be lent what reads an item, and say less of either.
 fn flags(heap: Global, row: &[u32]) -> Result<Option<Vec<bool>>, AllocError>
     ensures { IfOk result (λ flags. IsFlags row.now flags) }
 {

@@ -20,6 +20,7 @@ pub enum Key {
     Help,
 }
 
+// Looked through one by one, and not in a map: a line begins with a key, and goes on behind it.
 const KEYS: [Key; 14] = [
     Key::Plan,
     Key::InTime,

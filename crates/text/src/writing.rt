@@ -8,7 +8,7 @@ use crate::keys::Key;
 use std::fmt;
 use timing::Dot;
 
-// What stands in a row as one number.
+// What stands in a row as one number. Not `Into<u32>`, whose law is a relation: a row's text is a function of its numbers.
 pub trait AsNumber: Copy {
     ghost number: { Self → ℕ };
 
@@ -42,7 +42,7 @@ impl AsNumber for bool {
 }
 
 // Each number behind one space.
-#[derive(Clone, Copy)]
+#[derive(Clone, Copy, Debug)]
 pub struct Row<'a, T>(pub &'a [T]);
 
 impl<'a, T: AsNumber> fmt::Display for Row<'a, T> {

@@ -96,9 +96,7 @@ impl Counts {
         };
         check_marks(tick >= plan.frame_ticks(), pending, underrun)?;
         check_counts(&plan, tick, progress)?;
-        let Some(scan) = Scan::resume(plan, tick) else {
-            unreachable!()
-        };
+        let scan = Scan::resume(plan, tick).unwrap();
         Ok(Counts {
             scan,
             total: plan.frame_dots(),

@@ -12,7 +12,7 @@ use super::Counts;
 use timing::{Numbers, Plan, Scan};
 
 impl Counts {
-    // At a frame's start.
+    // At a frame's start, which is no fact of the type, since a step ends it.
     #[tactic(auto, unfolding(crate::specs::Model::begun))]
     pub fn start(plan: Plan) -> Counts
         ensures plan { result.scan.plan ≡ plan }

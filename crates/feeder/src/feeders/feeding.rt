@@ -13,7 +13,7 @@ use super::Feeder;
 use timing::Plan;
 
 impl Feeder {
-    // At a frame's start.
+    // At a frame's start, which is no fact of the type, since a step ends it.
     pub fn start(plan: Plan) -> Feeder
         ensures plan { result.counts.scan.plan ≡ plan }
         ensures tick { tick_in result.counts ≡ 0 }

@@ -3,14 +3,14 @@ ghost use Rattle.std.specs.Prelude.{◌≡◌, ◌+◌, ◌%◌, ◌<◌, ◌≤
 ghost use Rattle.feeder.specs.Panel.{in_time};
 ghost use Rattle.feeder.specs.Step.{plan_in, tick_in};
 ghost use Rattle.feeder.specs.Model.{begun};
-ghost use Rattle.fifo.specs.Frame.{takes_of, Given, Plays};
+ghost use Rattle.fifo.specs.Frame.{Given, Plays};
 
 use super::super::loads::bring;
 use super::super::memories::Memory;
 use super::super::pixels::{Exchange, Pixel};
 use super::super::refusals::Refusal;
 use super::Fifo;
-use feeder::{Feeder, Outcome, StateRefusal};
+use feeder::{Feeder, StateRefusal};
 use timing::Plan;
 
 // The place `by` places on in a ring.
@@ -28,18 +28,8 @@ fn onward(at: usize, by: usize, capacity: usize) -> usize
     }
 }
 
-// How many dots an outcome takes.
-fn taken_by(outcome: Outcome) -> usize
-    ensures { result ≡ takes_of outcome }
-{
-    match outcome {
-        Outcome::Dark { .. } => 0,
-        _ => 1,
-    }
-}
-
 impl Fifo {
-    // At a frame's start, with nothing in its ring.
+    // At a frame's start, with nothing in its ring; no fact of the type, since a step ends it.
     pub fn start(plan: Plan) -> Fifo
         ensures plan { result.feeder.counts.scan.plan ≡ plan }
         ensures tick { tick_in result.feeder.counts ≡ 0 }
@@ -78,12 +68,9 @@ impl Fifo {
         let count = bring(memory, ring, counts.progress(), brought, self.tail);
         let dot = ring[self.head];
         let mut feeder = self.feeder;
-        let outcome = match feeder.step(brought) {
-            Ok(outcome) => outcome,
-            Err(_) => unreachable(),
-        };
+        let outcome = feeder.step(brought).unwrap();
         self.tail = onward(self.tail, count, capacity);
-        self.head = onward(self.head, taken_by(outcome), capacity);
+        self.head = onward(self.head, usize::from(outcome.takes_dot()), capacity);
         self.feeder = feeder;
         Ok(Exchange::of(outcome, dot).pixel)
     }

@@ -2,22 +2,12 @@
 ghost use Rattle.std.specs.Prelude.{◌≡◌, MatchOption};
 ghost use Rattle.feeder.specs.Feed.{Over};
 ghost use Rattle.feeder.specs.Step.{tick_in};
-ghost use Rattle.scope.specs.Fill.{dot_of, Sampled};
+ghost use Rattle.scope.specs.Fill.{Sampled};
 
 use super::super::samples::Sample;
 use super::Probe;
-use feeder::{Feeder, Outcome};
+use feeder::Feeder;
 use timing::Plan;
-
-// The next dot of the frame, where the outcome takes one.
-fn dot_of(outcome: Outcome, next: u32) -> Option<u32>
-    ensures { result ≡ dot_of outcome next }
-{
-    match outcome {
-        Outcome::Dark { .. } => None,
-        _ => Some(next),
-    }
-}
 
 impl Probe {
     // At a frame's start.
@@ -41,7 +31,7 @@ impl Probe {
         let progress = after.progress();
         Some(Sample {
             tick: before.tick(),
-            dot: dot_of(outcome, before.taken()),
+            dot: outcome.takes_dot().then_some(before.taken()),
             missing: outcome.is_missing(),
             requested: progress.requested,
             arrived: progress.arrived,

@@ -1,6 +1,8 @@
-use Rattle.std.proofs.Common.{◌≡◌, ℕ, ◌%◌, ◌<◌, Bool, not, eqb, length, get_or, refl, ap, ◌∙◌, subst, mod-lt, arith}
+use Rattle.std.proofs.Common.{◌≡◌, ℕ, ◌%◌, ◌<◌, Bool, not, eqb, length, get_or, refl, ap, ◌∙◌, subst, mod-lt, arith, Result, subst₂}
 use Rattle.timing.proofs.Goods.{good_says}
-use Rattle.feeder.specs.Step.{Moved, Refused}
+use Rattle.feeder.specs.Step.{Steps}
+use Rattle.feeder.specs.declared.outcomes.Outcome.{Outcome}
+use Rattle.feeder.specs.declared.refusals.StepRefusal.{StepRefusal}
 use Rattle.feeder.specs.declared.states.Progress.{Progress}
 use Rattle.fifo.specs.Entry.{brings}
 use Rattle.fifo.specs.Gives.{exchange_of}
@@ -27,17 +29,17 @@ bounds-ring-next c =
 flag : (b : Bool) (n : ℕ) → b ≡ eqb n 0 → not b ≡ brings n
 flag b n e = ap not e
 
-pub unreachable-requires : goal.unreachable-requires
-unreachable-requires c =
-    never_refused c.args.counts _ (length c.args.brought.now) c.in-Err.field-0 c.requires.going
-    (subst (λ w. Refused c.args.counts w c.in-Err.field-0) (flag c.is_empty.result _ c.is_empty.ensures) c.in-Err.ensures.1)
+pub unwrap-outcome-requires : goal.unwrap-outcome-requires
+unwrap-outcome-requires c =
+    never_refused c.args.counts c.step.new.self _ (length c.args.brought.now) c.step.result c.requires.going
+    (subst (λ w. Steps c.args.counts w c.step.result c.step.new.self) (flag c.is_empty.result _ c.is_empty.ensures) c.step.ensures)
 
 pub returns : goal.returns
 returns c =
-    let moved = subst (λ w. Moved c.args.counts w c.in-Ok.outcome c.step.new.self) (flag c.is_empty.result (length c.args.brought.now) c.is_empty.ensures) c.in-Ok.ensures in
+    let moved = subst₂ (λ w (r : Result Outcome StepRefusal). Steps c.args.counts w r c.step.new.self) (flag c.is_empty.result (length c.args.brought.now) c.is_empty.ensures) c.unwrap-outcome.ensures c.step.ensures in
     let arrived : c.progress-arrived.result.arrived ≡ c.args.counts.progress.arrived = ap (λ (f : Progress). f.arrived) c.progress-arrived.ensures in
-    ticked c.args.counts c.step.new.self c.args.ring.now c.args.brought.now c.in-Ok.outcome c.requires.going moved
+    ticked c.args.counts c.step.new.self c.args.ring.now c.args.brought.now c.unwrap-outcome.result c.requires.going moved
     c.of.result c.copy_from_slice.new.self c.fill.new.ring
     (c.fill.ensures ∙ ap (λ n. filled (length c.args.ring.now) n c.args.brought.now c.args.ring.now) arrived)
     (c.copy_from_slice.ensures.after ∙ c.state.ensures)
-    (c.of.ensures ∙ ap (λ n. exchange_of c.in-Ok.outcome (get_or c.fill.new.ring (n % length c.args.ring.now) 0)) c.taken.ensures)
+    (c.of.ensures ∙ ap (λ n. exchange_of c.unwrap-outcome.result (get_or c.fill.new.ring (n % length c.args.ring.now) 0)) c.taken.ensures)

@@ -1,7 +1,8 @@
-use Rattle.std.proofs.Common.{◌≡◌, None, get_or, leb, sym, refl, ap, ◌∙◌, ap₂, arith, rules}
+use Rattle.std.proofs.Common.{◌≡◌, None, get_or, leb, sym, refl, ap, ◌∙◌, ap₂, arith, rules, ℕ, ◌<◌, Some, Option, MatchOption, IsSome, subst}
 use Rattle.std.proofs.lemmas.Result.{err_from_is_err_and}
 use Rattle.timing.specs.Frame.{frame_ticks, frame_dots}
 use Rattle.timing.specs.declared.plans.Plan.{Plan}
+use Rattle.timing.specs.declared.scans.Scan.{Scan}
 use Rattle.feeder.specs.Panel.{accepted}
 use Rattle.feeder.specs.Lent.{tick_at, progress_at, mark_refusal}
 use Rattle.feeder.proofs.Lents.{too_long, too_short, at_marks, at_counts, inside, counts_right}
@@ -28,21 +29,32 @@ returns-in_err-check_counts c =
     let e = err_from_is_err_and c.from_residual-in_err-check_counts.result c.from_residual-in_err-check_counts.ensures.1 in
     rw (e.1, e.2) (at_counts _ _ (search rules) (marked (goal.at.returns-in_err-check_counts c).In_ok-check_marks) ∙ c.in_err-check_counts.ensures)
 
-pub unreachable-requires : goal.unreachable-requires
-unreachable-requires c =
-    let there = inside _ _ _ _ (marked (goal.at.unreachable-requires c).In_ok-check_marks) in
-    omega (arith, c.in_default-resume.ensures)
+-- a tick of the frame has a scan, and it is the one that is asked for
+abbrev There : Plan → ℕ → Option Scan → Type 0
+There plan t r = MatchOption r (frame_ticks plan.numbers < t) (λ scan. (scan.plan ≡ plan) × (scan.at.tick ≡ t))
+
+there_is : (plan : Plan) (t : ℕ) (r : Option Scan) → There plan t r → t < frame_ticks plan.numbers → IsSome r
+there_is plan t None h inside = absurd (omega arith)
+there_is plan t (Some s) h inside = refl
+
+scan_is : (plan : Plan) (t : ℕ) (r : Option Scan) (s : Scan) → r ≡ Some s → There plan t r → (s.plan ≡ plan) × (s.at.tick ≡ t)
+scan_is plan t r s e h = subst (There plan t) e h
+
+pub unwrap-scan-requires : goal.unwrap-scan-requires
+unwrap-scan-requires c =
+    let here = inside _ _ _ _ (marked (goal.at.unwrap-scan-requires c).In_ok-check_marks) in
+    there_is _ _ c.resume.result c.resume.ensures (omega (arith, here))
 
 pub invariant_of-result : goal.invariant_of-result
 invariant_of-result c =
-    let scan = c.in-Some.ensures in record {
+    let scan = scan_is _ _ c.resume.result c.unwrap-scan.result c.unwrap-scan.ensures c.resume.ensures in record {
       dots = c.frame_dots.ensures.value ∙ ap (λ (q : Plan). frame_dots q.numbers) (sym scan.0);
       ok = ap₂ (λ (q : Plan) t. accepted q.numbers t (progress_at c.args.state.now)) scan.0 scan.1 ∙ counts_right _ _ _ c.in_ok-check_counts.ensures;
     }
 
 pub returns : goal.returns
 returns c =
-    let scan = c.in-Some.ensures in
+    let scan = scan_is _ _ c.resume.result c.unwrap-scan.result c.unwrap-scan.ensures c.resume.ensures in
     record {
       right = at_counts _ _ (search rules) (marked (goal.at.returns c).In_ok-check_marks) ∙ c.in_ok-check_counts.ensures;
       plan_is = scan.0;
