@@ -16,7 +16,7 @@ pub fn is_willing(flags: &[bool], tick: u32) -> bool
     flags.get(tick as usize).copied().unwrap_or(false)
 }
 
-// Whether a dot is missing in the feeder's next tick.
+// Whether a dot is missing in the feeder's next tick. That there is one is known of a loop's count, and no type's.
 fn misses_next(feeder: &mut Feeder, willing: bool) -> bool
     requires { tick_in feeder.old.counts < frame_ticks (plan_in feeder.old.counts) }
     ensures { Ran feeder.old.counts willing result feeder.new.counts }

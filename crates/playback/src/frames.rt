@@ -14,7 +14,7 @@ use super::underruns::Underrun;
 use fifo::{Fifo, Refusal};
 use timing::Plan;
 
-// One tick, shown: whether its dot is missing.
+// One tick, shown: whether its dot is missing. That there is one is known of a loop's count, and no type's.
 fn serve<M: Scripted, S: Screen>(
     fifo: &mut Fifo,
     ring: &mut [u16],
