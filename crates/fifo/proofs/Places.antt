@@ -1,6 +1,6 @@
 -- The places of a ring: which are written, and which stay.
 use Rattle.std.proofs.Common.{◌≡◌, ℕ, zero, suc, ◌+◌, ◌-◌, ◌/◌, ◌%◌, ◌<◌, ◌≤◌, min, ◌≢◌, List, [], ◌∷◌, ◌++◌, length, get_or, take, drop, set, sym, refl, ap, ◌∙◌, ⊎_elim, add-zero, mod-lt, mod-eq_of_lt, suc-mul, div-add-mod', arith}
-use native.Mathlib.Nat.{mod-add-mod, mod-eq-sub-mod, mod_self}
+use native.Mathlib.Nat.{mod-add-mod, mod_self}
 use Rattle.std.proofs.lemmas.Nat.{mul-le}
 use Rattle.std.proofs.lemmas.List.{length-set, length-take, length-drop, length-append, take_at, drop_at, get_or_append_left, get_or-append_right, get_or-set_same, get_or-set_other, take_more_set, take-append-drop, drop-set-lt, drop-drop, append_assoc}
 use Rattle.std.proofs.lemmas.Bool.{cases_lt}
@@ -108,10 +108,6 @@ loaded c a n count r p q picture place inside few split np nq first rest =
       here = λ i h. ap (λ l. get_or l ((c + i) % m) 0) same ∙ filled_here m c b r i refl (omega arith) (omega arith) ∙ each i h;
       other = λ k h. ap (λ l. get_or l k 0) same ∙ filled_other m c b r k (λ i l. h i (omega arith));
     }
-
--- a place past the ring's end, once round
-pub place_back : (m k : ℕ) → m ≤ k → k < m + m → k % m ≡ k - m
-place_back m k low high = let h : k - m < m = omega arith in mod-eq-sub-mod low ∙ mod-eq_of_lt h
 
 -- what is brought and continues a picture is loaded from it
 pub loaded_filled : (c : ℕ) (b r : List ℕ) (picture : ℕ → ℕ) → length b ≤ length r → Continues b c picture → Loaded picture c (length b) r (filled (length r) c b r)

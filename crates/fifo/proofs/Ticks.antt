@@ -25,7 +25,6 @@ use Rattle.feeder.proofs.Reach.{reached_tick, steps_fed}
 use Rattle.fifo.specs.Entry.{Going, Exchanged, Ticked, NotMissing, brings, out_of}
 use Rattle.fifo.specs.Gives.{exchange_of, is_missing, out_with, out_from}
 use Rattle.fifo.specs.Ring.{filled, Holds, Continues}
-use Rattle.fifo.specs.declared.outs.Out.{Out}
 use Rattle.fifo.specs.declared.pixels.Exchange.{Exchange}
 use Rattle.fifo.specs.declared.pixels.Pixel.{Pixel}
 use Rattle.fifo.specs.declared.pixels.Pixel.TheVariants.{Dot, Dark, Missing}

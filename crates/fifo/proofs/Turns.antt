@@ -20,7 +20,7 @@ use Rattle.feeder.specs.declared.states.Progress.{Progress}
 use Rattle.feeder.proofs.Laws.{tick_arrived}
 use Rattle.feeder.proofs.Plans.{accepted_kept, by_plan}
 use Rattle.feeder.proofs.Reach.{follows}
-use Rattle.fifo.specs.Frame.{Kept, pixel_of, takes_of, Played}
+use Rattle.fifo.specs.Frame.{Kept, takes_of, Played}
 use Rattle.fifo.specs.Gives.{exchange_of}
 use Rattle.fifo.specs.Ring.{Holds, Loaded}
 use Rattle.fifo.specs.Script.{Script}

@@ -1,8 +1,3 @@
-use Rattle.std.proofs.Common.{sym, subst, subst₂}
-use Rattle.timing.specs.Row.{numbers_in}
-use Rattle.feeder.specs.Lent.{tick_at, progress_at}
-use Rattle.fifo.specs.Entry.{TickSays, Ticked}
-use Rattle.fifo.specs.declared.outs.Out.{Out}
 use Rattle.fifo.proofs.Checks.{refused_number, refused_says}
 use Rattle.fifo.proofs.Ticks.{ticked_out}
 use Rattle.fifo.proofs.entries.tick.Goals as goal

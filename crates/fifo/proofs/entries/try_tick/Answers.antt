@@ -1,4 +1,3 @@
-use Rattle.std.proofs.Common.{rules}
 use Rattle.fifo.proofs.Checks.{going, state_six, ready_says}
 use Rattle.fifo.proofs.entries.try_tick.Goals as goal
 
