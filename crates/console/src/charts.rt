@@ -35,7 +35,7 @@ impl Drawing {
 
     // The column that a tick stands in.
     fn column_of(&self, tick: u32) -> usize {
-        let count = self.chart.columns.len() as u32;
+        let count = self.chart.count;
         let ticks = self.plan.frame_ticks();
         let (each, longer) = (ticks / count.max(1), ticks % count.max(1));
         (1..=count)
@@ -45,7 +45,7 @@ impl Drawing {
     }
 
     fn write_cells<W: fmt::Write>(&self, level: u32, f: &mut fmt::Formatter<W>) -> fmt::Result {
-        for span in self.chart.columns.iter() {
+        for span in self.chart.columns.iter().take(self.chart.count as usize) {
             f.write_str(cell(span, level))?;
         }
         f.write_str("\n")
@@ -70,14 +70,14 @@ impl Drawing {
 impl fmt::Display for Drawing {
     fn fmt<W: fmt::Write>(&self, f: &mut fmt::Formatter<W>) -> fmt::Result {
         self.write_rows(f)?;
-        let count = self.chart.columns.len();
+        let count = self.chart.count as usize;
         write!(f, "    0 +{:-<count$}\n", "")?;
         if let Some(tick) = self.missing {
             let column = self.column_of(tick);
             write!(f, "       {:column$}!\n", "")?;
         }
         let ticks = self.plan.frame_ticks();
-        let each = ticks.div_ceil((count as u32).max(1));
+        let each = ticks.div_ceil(self.chart.count.max(1));
         write!(
             f,
             "       {ticks} ticks, {each} to a column at most; # always that full, : at times\n"

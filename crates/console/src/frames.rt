@@ -5,7 +5,7 @@ use super::meters::Meter;
 use super::traces::Trace;
 use anyhow::anyhow;
 use feeder::first_underrun_latest;
-use fifo::{Answering, ByList, Numbered, Picture, Stored};
+use fifo::{Answering, Numbered, Picture, Stored, Willing};
 use playback::play;
 use scope::{Probe, Sample};
 use session::{Bench, Reply};
@@ -13,21 +13,18 @@ use std::io::BufWriter;
 use timing::Plan;
 
 // Prints the frame's dots as it is played, and then the first tick in which one was missing.
-fn show<P: Picture + Drop>(
+fn show<P: Picture + Drop, W: Willing + Drop>(
     rt: &HostRuntime,
     plan: Plan,
     picture: P,
-    willing: &[bool],
+    willing: W,
 ) -> anyhow::Result<()> {
     let numbers = plan.numbers();
     let mut ring = Vec::from_elem(rt.alloc(), 0u16, numbers.capacity as usize)?;
     let meter = Meter::new(rt.stderr(), &plan);
     let out = BufWriter::new(rt.alloc(), rt.stdout())?;
     let mut lines = Lines::new(out, meter, numbers.width);
-    let mut memory = Answering {
-        picture,
-        willing: ByList(willing),
-    };
+    let mut memory = Answering { picture, willing };
     let played = play(plan, ring.as_mut_slice(), &mut memory, &mut lines, 1);
     lines.finish()?;
     let underrun = played.map_err(|_| anyhow!("a ring of another length"))?;
@@ -35,8 +32,8 @@ fn show<P: Picture + Drop>(
     Ok(())
 }
 
-// By a memory that is willing in the ticks that the flags say, and in none past them.
-pub fn run(rt: &HostRuntime, bench: &Bench, willing: &[bool]) -> anyhow::Result<()> {
+// By a memory with the bench's picture.
+pub fn run<W: Willing + Drop>(rt: &HostRuntime, bench: &Bench, willing: W) -> anyhow::Result<()> {
     match &bench.dots {
         Some(dots) => {
             let dots = dots.as_slice();

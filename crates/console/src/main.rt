@@ -8,6 +8,7 @@ mod meters;
 mod traces;
 
 use anyhow::Context;
+use fifo::{ByList, Latest};
 use session::{Answer, Reply, Session};
 use std::fs::File;
 use std::io::{BufRead, BufReader, IsTerminal, Read};
@@ -47,8 +48,8 @@ impl<'a> Console<'a> {
                 self.say(reply)?;
                 Ok(())
             }
-            (Answer::RunLatest, Some(bench)) => frames::run(rt, bench, &[]),
-            (Answer::RunBy(willing), Some(bench)) => frames::run(rt, bench, willing.as_slice()),
+            (Answer::RunLatest, Some(bench)) => frames::run(rt, bench, Latest),
+            (Answer::RunBy(willing), Some(bench)) => frames::run(rt, bench, ByList(&willing)),
             (Answer::Chart, Some(bench)) => frames::chart(rt, bench.plan),
             (Answer::Trace, Some(bench)) => frames::trace(rt, bench.plan),
             (Answer::Silence, _) | (_, None) => Ok(()),

@@ -71,7 +71,7 @@ refused_number xs s m n (Ring k) h = let seven = h.0.0 in let ok = h.0.1 in let 
 refused_number xs s m n (Brought k) h = let seven = h.0.0 in let ok = h.0.1 in let none = ap is_some h.1 in let size = h.2 in let wrong = h.3 in grind (arith, nat_tests)
 refused_number xs s m n (Late t) h = let seven = h.0.0 in let ok = h.0.1 in let none = ap is_some h.1 in let size = h.2 in let whole = h.3 in let due = h.4 in grind (arith, nat_tests)
 
-ready_number : (xs s : List ℕ) (m n : ℕ) (c : Counts) → Ready xs s m n c → refusal xs s m n ≡ 0
+pub ready_number : (xs s : List ℕ) (m n : ℕ) (c : Counts) → Ready xs s m n c → refusal xs s m n ≡ 0
 unfolding refusal
 ready_number xs s m n c r =
     let seven = r.opened.plan_ok.0 in

@@ -1,5 +1,5 @@
 -- The places of a ring: which are written, and which stay.
-use Rattle.std.proofs.Common.{◌≡◌, ℕ, zero, suc, ◌+◌, ◌-◌, ◌/◌, ◌%◌, ◌<◌, ◌≤◌, min, ◌≢◌, List, [], ◌∷◌, ◌++◌, length, get_or, take, drop, set, sym, refl, ap, ◌∙◌, ⊎_elim, add-zero, mod-lt, mod-eq_of_lt, suc-mul, div-add-mod', arith}
+use Rattle.std.proofs.Common.{◌≡◌, ℕ, zero, suc, ◌+◌, ◌-◌, ◌/◌, ◌%◌, ◌<◌, ◌≤◌, min, ◌≢◌, List, [], ◌∷◌, ◌++◌, length, get_or, take, drop, set, sym, refl, ap, ◌∙◌, ⊎_elim, subst, add-zero, mod-lt, mod-eq_of_lt, suc-mul, div-add-mod', arith}
 use native.Mathlib.Nat.{mod-add-mod, mod_self}
 use Rattle.std.proofs.lemmas.Nat.{mul-le}
 use Rattle.std.proofs.lemmas.List.{length-set, length-take, length-drop, length-append, take_at, drop_at, get_or_append_left, get_or-append_right, get_or-set_same, get_or-set_other, take_more_set, take-append-drop, drop-set-lt, drop-drop, append_assoc}
@@ -125,3 +125,9 @@ holds_loaded from c n r r₁ picture room l holds k low high = ⊎_elim
     let place : c + (k - c) ≡ k = omega arith in
     ap (λ n. get_or r₁ (n % length r) 0) (sym place) ∙ l.here (k - c) (omega arith) ∙ ap picture place)
     (cases_lt k c)
+
+-- so a ring that is filled with what continues a picture goes on holding it
+pub holds_filled : (m from c : ℕ) (b r : List ℕ) (picture : ℕ → ℕ) → length r ≡ m → c + length b ≤ from + m → length b ≤ m → Holds m from c r picture → Continues b c picture → Holds m from (c + length b) (filled m c b r) picture
+holds_filled m from c b r picture full room few holds more =
+    subst (λ n. c + length b ≤ from + n → length b ≤ n → Holds n from c r picture → Holds n from (c + length b) (filled n c b r) picture) full
+    (λ inside short before. holds_loaded from c (length b) r _ picture inside (loaded_filled c b r picture short more) before) room few holds

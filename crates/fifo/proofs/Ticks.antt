@@ -28,7 +28,7 @@ use Rattle.fifo.specs.Ring.{filled, Holds, Continues}
 use Rattle.fifo.specs.declared.pixels.Exchange.{Exchange}
 use Rattle.fifo.specs.declared.pixels.Pixel.{Pixel}
 use Rattle.fifo.specs.declared.pixels.Pixel.TheVariants.{Dot, Dark, Missing}
-use Rattle.fifo.proofs.Places.{holds_loaded, loaded_filled}
+use Rattle.fifo.proofs.Places.{holds_filled}
 
 -- what has arrived after the answer is what had, and what is brought
 pub arrived_by : (d : Demand) (w : Bool) (f : Progress) → answers d w f ≡ w → f.arrived ≤ f.requested → (after_answer d w f).arrived ≡ f.arrived + cond w (f.requested - f.arrived) 0
@@ -90,7 +90,7 @@ module _ (c c₁ : Counts) (r b : List ℕ) (o : Outcome) (going : Going c (leng
 
   holds : (picture : ℕ → ℕ) → Holds (length r) (taken (plan_in c) (tick_in c)) c.progress.arrived r picture → Continues b c.progress.arrived picture →
       Holds (length r) (taken (plan_in c) (tick_in c)) (c.progress.arrived + length b) (filled (length r) c.progress.arrived b r) picture
-  holds picture old new = holds_loaded _ c.progress.arrived (length b) r _ picture room (loaded_filled c.progress.arrived b r picture (few c (length r) (length b) going) new) old
+  holds picture old new = holds_filled (length r) _ c.progress.arrived b r picture refl room (few c (length r) (length b) going) old new
 
   pub ticked : (e : Exchange) (s₁ r₁ : List ℕ) → r₁ ≡ filled (length r) c.progress.arrived b r → s₁ ≡ state_of c₁ → e ≡ exchange_of o (get_or r₁ (taken (plan_in c) (tick_in c) % length r) 0) →
       Exchanged (plan_in c) (tick_in c) c.progress r b e s₁ r₁

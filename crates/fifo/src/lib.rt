@@ -17,12 +17,14 @@ pub use entries::{accept, next_dots, tick, try_tick};
 pub use fifos::Fifo;
 pub use memories::Memory;
 pub use outs::Out;
-pub use pictures::{Numbered, Picture, Stored};
+pub use pictures::{Indexed, Numbered, Picture, Stored};
 pub use pixels::{Exchange, Pixel};
 pub use refusals::Refusal;
 
 #[cfg(test)]
 mod tests {
+    ghost use Rattle.std.specs.Prelude.{true, slice_index};
+
     use super::*;
     use std::process::Abort;
     use std::test::Fail;
@@ -273,6 +275,56 @@ mod tests {
         assert_eq!(rt; listed.step(&mut ring, &mut by_list)?, Pixel::Dark);
         assert_eq!(rt; listed.step(&mut ring, &mut by_list)?, Pixel::Dot(1));
         Ok(())
+    }
+
+    // A picture that is handed out by bursts alone.
+    struct Bursts<'a> {
+        behind: Stored<'a>,
+    }
+
+    impl<'a> Picture for Bursts<'a> {
+        ghost dots = { λ p k. slice_index p.behind.dots.now k };
+
+        fn copy(&self, first: u32, part: &mut [u16]) {
+            self.behind.copy(first, part);
+        }
+    }
+
+    // A memory of which nothing is known but its dots: it is willing each third time that it is asked.
+    struct Whim<'a> {
+        picture: Bursts<'a>,
+        asked: u32,
+    }
+
+    impl<'a> Memory for Whim<'a> {
+        ghost script = { λ m. record { dots = λ f k. slice_index m.picture.behind.dots.now k; may = λ f t said. true } };
+
+        fn willing(&mut self, _tick: u32) -> bool {
+            self.asked = self.asked.wrapping_add(1);
+            self.asked.is_multiple_of(3)
+        }
+
+        fn read(&mut self, first: u32, part: &mut [u16]) {
+            self.picture.copy(first, part);
+        }
+    }
+
+    #[test]
+    fn a_frame_from_a_memory_of_which_nothing_is_known(rt: HostRuntime) -> Result<(), Fail> {
+        let dots = [
+            10, 11, 12, 13, 14, 15, 16, 17, 18, 19, 20, 21, 22, 23, 24, 25,
+        ];
+        play(
+            &rt,
+            Plan::new(&PLAN)?,
+            &mut [0; 6],
+            &mut Whim {
+                picture: Bursts {
+                    behind: Stored { dots: &dots },
+                },
+                asked: 0,
+            },
+        )
     }
 
     #[test]

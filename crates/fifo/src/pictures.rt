@@ -5,13 +5,24 @@ pub trait Picture {
     // dot k
     ghost dots: { Self → ℕ → ℕ };
 
-    fn dot(&self, k: usize) -> u16
-        ensures { result ≡ dots self.now k };
-
     // Writes the dots from dot `first` on.
     fn copy(&self, first: u32, part: &mut [u16])
-        ensures { (i : ℕ) → i < length part.new → slice_index part.new i ≡ dots self.now (first + i) }
-    {
+        ensures { (i : ℕ) → i < length part.new → slice_index part.new i ≡ dots self.now (first + i) };
+}
+
+// A picture of which each dot can be said by itself. No member of `Picture`, since a burst may come as a whole.
+pub trait Indexed {
+    // dot k
+    ghost each: { Self → ℕ → ℕ };
+
+    fn dot(&self, k: usize) -> u16
+        ensures { result ≡ each self.now k };
+}
+
+impl<P: Indexed> Picture for P {
+    ghost dots = { P.each };
+
+    fn copy(&self, first: u32, part: &mut [u16]) {
         for (i, place) in part.iter_mut().enumerate() {
             *place = self.dot(first as usize + i);
         }
@@ -24,8 +35,8 @@ pub struct Stored<'a> {
     pub dots: &'a [u16],
 }
 
-impl<'a> Picture for Stored<'a> {
-    ghost dots = { λ p k. slice_index p.dots.now k };
+impl<'a> Indexed for Stored<'a> {
+    ghost each = { λ p k. slice_index p.dots.now k };
 
     fn dot(&self, k: usize) -> u16 {
         self.dots.get(k).copied().unwrap_or(0)
@@ -36,8 +47,8 @@ impl<'a> Picture for Stored<'a> {
 #[derive(Clone, Copy, Debug, PartialEq, Eq)]
 pub struct Numbered;
 
-impl Picture for Numbered {
-    ghost dots = { λ p k. k % 65536 };
+impl Indexed for Numbered {
+    ghost each = { λ p k. k % 65536 };
 
     fn dot(&self, k: usize) -> u16 {
         (k % 65536) as u16

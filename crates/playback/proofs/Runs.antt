@@ -42,7 +42,7 @@ missing_pixel (given.Dark n) x = refl
 missing_pixel (given.Missing n) x = refl
 
 -- what a memory says that may say one thing only
-said_is : (may : Bool → Bool) (said : Bool) → (may false ≡ true → may true ≡ false) → may said ≡ true → said ≡ may true
+pub said_is : (may : Bool → Bool) (said : Bool) → (may false ≡ true → may true ≡ false) → may said ≡ true → said ≡ may true
 said_is may true decided h = sym h
 said_is may false decided h = sym (decided h)
 

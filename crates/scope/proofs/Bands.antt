@@ -1,7 +1,7 @@
 -- The least and the most over some ticks, one tick more at a time.
-use Rattle.std.proofs.Common.{◌≡◌, ℕ, suc, ◌+◌, ◌*◌, ◌/◌, ◌%◌, ◌<◌, ◌≤◌, min, max, true, cond, ltb, List, [], ◌∷◌, ◌++◌, length, get_or, sym, ap, ◌∙◌, subst, ⊎_elim, mod-lt, suc-mul, mul_comm, div-add-mod', zero-mul, arith}
+use Rattle.std.proofs.Common.{◌≡◌, ℕ, suc, ◌+◌, ◌*◌, ◌/◌, ◌%◌, ◌<◌, ◌≤◌, min, max, true, cond, ltb, ◌≢◌, List, length, get_or, set, ap, ◌∙◌, subst, ⊎_elim, mod-lt, suc-mul, mul_comm, div-add-mod', zero-mul, arith}
 use Rattle.std.proofs.lemmas.Nat.{mul-le}
-use Rattle.std.proofs.lemmas.List.{get_or_append_left, get_or_push}
+use Rattle.std.proofs.lemmas.List.{get_or-set_same, get_or-set_other}
 use Rattle.std.proofs.lemmas.Bool.{cases_lt}
 use Rattle.std.proofs.lemmas.Bool.Decides.{nat_tests}
 use Rattle.timing.specs.Frame.{line_ticks, frame_ticks}
@@ -10,7 +10,7 @@ use Rattle.timing.specs.declared.numbers.Numbers.{Numbers}
 use Rattle.timing.proofs.Goods.{good_says}
 use Rattle.feeder.specs.Step.{plan_in, tick_in}
 use Rattle.feeder.specs.declared.counts.Counts.{Counts}
-use Rattle.scope.specs.Fill.{fill, Spans, column_start, column_size, count, span_at, Charted}
+use Rattle.scope.specs.Fill.{fill, Spans, column_start, column_size, span_at, Charted}
 use Rattle.scope.specs.declared.charts.Chart.{Chart}
 use Rattle.scope.specs.declared.spans.Span.{Span}
 
@@ -35,15 +35,15 @@ pub Columns : Numbers → (each longer i : ℕ) → List Span → Type 0
 Columns p each longer i columns =
     (j : ℕ) → j < i → Spans p (suc (j * each + min j longer)) (each + cond (ltb j longer) 1 0) (get_or columns j (record { least = 0; most = 0 })).least (get_or columns j (record { least = 0; most = 0 })).most
 
-pub columns_more : (p : Numbers) (each longer i : ℕ) (columns : List Span) (c : Span) → length columns ≡ i → Columns p each longer i columns →
-    Spans p (suc (i * each + min i longer)) (each + cond (ltb i longer) 1 0) c.least c.most → Columns p each longer (i + 1) (columns ++ c ∷ [])
+pub columns_more : (p : Numbers) (each longer i : ℕ) (columns : List Span) (c : Span) → i < length columns → Columns p each longer i columns →
+    Spans p (suc (i * each + min i longer)) (each + cond (ltb i longer) 1 0) c.least c.most → Columns p each longer (i + 1) (set columns i c)
 unfolding Columns
-columns_more p each longer i columns c size before here j h = ⊎_elim
-    (λ (old : j < i). let inside : j < length columns = omega arith in rw get_or_append_left (before j old))
+columns_more p each longer i columns c inside before here j h = ⊎_elim
+    (λ (old : j < i). let other : j ≢ i = omega arith in rw (get_or-set_other columns i j c (record { least = 0; most = 0 }) other) (before j old))
     (λ (new : i ≤ j).
     let last : i ≡ j = omega arith in
-    subst (λ k. Spans p (suc (k * each + min k longer)) (each + cond (ltb k longer) 1 0) (get_or (columns ++ c ∷ []) k (record { least = 0; most = 0 })).least (get_or (columns ++ c ∷ []) k (record { least = 0; most = 0 })).most) last
-    (rw (get_or_push columns c (record { least = 0; most = 0 }) i size) here))
+    subst (λ k. Spans p (suc (k * each + min k longer)) (each + cond (ltb k longer) 1 0) (get_or (set columns i c) k (record { least = 0; most = 0 })).least (get_or (set columns i c) k (record { least = 0; most = 0 })).most) last
+    (rw (get_or-set_same columns i c (record { least = 0; most = 0 }) inside) here))
     (cases_lt j i)
 
 -- a column begins where the one before it ends, and the last one ends with the frame
@@ -80,22 +80,17 @@ frame_some p ok = let g = good_says p ok in omega (arith, g.width_least, mul-le 
 pub record Drawn (from now : Counts) (each longer i : ℕ) (columns : List Span) : Type 0 where
   pub plan : plan_in now ≡ plan_in from
   pub tick : tick_in now ≡ i * each + min i longer
-  pub size : length columns ≡ i
+  pub size : length columns ≡ 80
   pub done : Columns (plan_in from) each longer i columns
 
-charted_by : (p : Numbers) (t : ℕ) (c : Chart) (from now : Counts) (i : ℕ) → t ≡ frame_ticks p → 0 < t → count c ≡ min t 80 → plan_in from ≡ p → i ≡ count c → Drawn from now (t / count c) (t % count c) i c.columns.items → Charted p c
-charted_by p t c from now i ticks some size plan all drawn =
-    let few : 0 < count c = omega arith in
-    let each = column_some t (count c) few (omega arith) in
+pub charted : (p : Numbers) (t : ℕ) (c : Chart) (from now : Counts) (i : ℕ) → t ≡ frame_ticks p → 0 < t → c.count ≡ min t 80 → plan_in from ≡ p → i ≡ c.count → Drawn from now (t / c.count) (t % c.count) i c.columns → Charted p c
+charted p t c from now i ticks some count plan all drawn =
+    let few : 0 < c.count = omega arith in
+    let each = column_some t c.count few (omega arith) in
     record {
-      count_is = size ∙ ap (λ k. min k 80) ticks;
-      column = subst (λ k. (j : ℕ) → j < count c → Spans p (suc (column_start k (count c) j)) (column_size k (count c) j) (span_at c j).least (span_at c j).most) ticks (columns_at _ p (t / count c) (t % count c) i (count c) c.columns.items plan all drawn.done);
-      some = λ j h. subst (λ k. 0 < column_size k (count c) j) ticks (omega arith);
-      on = λ j h. column_on (frame_ticks p) (count c) j;
-      whole = columns_whole (frame_ticks p) (count c) few;
+      count_is = count ∙ ap (λ k. min k 80) ticks;
+      column = subst (λ k. (j : ℕ) → j < c.count → Spans p (suc (column_start k c.count j)) (column_size k c.count j) (span_at c j).least (span_at c j).most) ticks (columns_at _ p (t / c.count) (t % c.count) i c.count c.columns plan all drawn.done);
+      some = λ j h. subst (λ k. 0 < column_size k c.count j) ticks (omega arith);
+      on = λ j h. column_on (frame_ticks p) c.count j;
+      whole = columns_whole (frame_ticks p) c.count few;
     }
-
-pub charted : (p : Numbers) (t n : ℕ) (c : Chart) (from now : Counts) (i : ℕ) → t ≡ frame_ticks p → 0 < t → n ≡ min t 80 → plan_in from ≡ p → i ≡ n → Drawn from now (t / n) (t % n) i c.columns.items → Charted p c
-charted p t n c from now i ticks some few plan all drawn =
-    let size : n ≡ count c = sym (drawn.size ∙ all) in
-    charted_by p t c from now i ticks some (sym size ∙ few) plan (all ∙ size) (subst (λ k. Drawn from now (t / k) (t % k) i c.columns.items) size drawn)

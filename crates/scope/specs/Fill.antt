@@ -1,5 +1,5 @@
 -- A frame by the latest memory, tick by tick. Assumes nothing: these are definitions.
-use Rattle.std.specs.Prelude.{◌≡◌, ℕ, suc, ◌+◌, ◌-◌, ◌*◌, ◌/◌, ◌%◌, ◌<◌, ◌≤◌, min, cond, length, Some, None, Option, nat_lt, slice_index_or}
+use Rattle.std.specs.Prelude.{◌≡◌, ℕ, suc, ◌+◌, ◌-◌, ◌*◌, ◌/◌, ◌%◌, ◌<◌, ◌≤◌, min, cond, Some, None, Option, nat_lt, slice_index_or}
 use Rattle.timing.specs.Frame.{frame_ticks, takes, taken}
 use Rattle.timing.specs.declared.numbers.Numbers.{Numbers}
 use Rattle.feeder.specs.Model.{after_answer, misses, after, latest}
@@ -65,16 +65,13 @@ column_start t n i = i * (t / n) + min i (t % n)
 abbrev pub column_size : (t n i : ℕ) → ℕ
 column_size t n i = t / n + cond (nat_lt i (t % n)) 1 0
 
-abbrev pub count : Chart → ℕ
-count c = length c.columns.items
-
 abbrev pub span_at : Chart → ℕ → Span
-span_at c i = slice_index_or c.columns.items i (record { least = 0; most = 0 })
+span_at c i = slice_index_or c.columns i (record { least = 0; most = 0 })
 
 -- column by column the least and the most at the ends of its ticks; the columns are the frame, one after the other, with none left out
 pub record Charted (p : Numbers) (c : Chart) : Type 0 where
-  pub count_is : count c ≡ min (frame_ticks p) 80
-  pub column : (i : ℕ) → i < count c → Spans p (suc (column_start (frame_ticks p) (count c) i)) (column_size (frame_ticks p) (count c) i) (span_at c i).least (span_at c i).most
-  pub some : (i : ℕ) → i < count c → 0 < column_size (frame_ticks p) (count c) i
-  pub on : (i : ℕ) → i < count c → column_start (frame_ticks p) (count c) (suc i) ≡ column_start (frame_ticks p) (count c) i + column_size (frame_ticks p) (count c) i
-  pub whole : column_start (frame_ticks p) (count c) (count c) ≡ frame_ticks p
+  pub count_is : c.count ≡ min (frame_ticks p) 80
+  pub column : (i : ℕ) → i < c.count → Spans p (suc (column_start (frame_ticks p) c.count i)) (column_size (frame_ticks p) c.count i) (span_at c i).least (span_at c i).most
+  pub some : (i : ℕ) → i < c.count → 0 < column_size (frame_ticks p) c.count i
+  pub on : (i : ℕ) → i < c.count → column_start (frame_ticks p) c.count (suc i) ≡ column_start (frame_ticks p) c.count i + column_size (frame_ticks p) c.count i
+  pub whole : column_start (frame_ticks p) c.count c.count ≡ frame_ticks p

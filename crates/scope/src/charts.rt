@@ -6,7 +6,6 @@ ghost use Rattle.scope.specs.Fill.{Filled, Spanned, Charted};
 
 use super::probes::Probe;
 use super::spans::Span;
-use arrayvec::ArrayVec;
 use timing::Plan;
 
 // The fill at the next tick's end. That there is one is known of a loop's count, and no type's.
@@ -40,10 +39,11 @@ fn measure(probe: &mut Probe, ticks: u32) -> Span
 }
 
 // The frame's ticks in columns of one length, the first of them one tick longer where it does not divide evenly.
-#[derive(Clone, Debug, Drop, PartialEq, Eq)]
+#[derive(Clone, Copy, Debug, PartialEq, Eq)]
 pub struct Chart {
-    // as many as `WIDTH`, or as many as the frame has ticks
-    pub columns: ArrayVec<Span, 80>,
+    pub columns: [Span; 80],
+    // how many of them the frame fills: all, or as many as it has ticks
+    pub count: u32,
 }
 
 impl Chart {
@@ -58,11 +58,11 @@ impl Chart {
         let each = ticks / count;
         let longer = ticks % count;
         let mut probe = Probe::start(plan);
-        let mut columns = ArrayVec::new();
+        let mut columns = [Span::default(); 80];
         for column in 0..count {
             let size = each + u32::from(column < longer);
-            columns.push(measure(&mut probe, size));
+            columns[column as usize] = measure(&mut probe, size);
         }
-        Chart { columns }
+        Chart { columns, count }
     }
 }

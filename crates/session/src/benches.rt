@@ -19,15 +19,15 @@ pub struct Bench {
     pub ring: Vec<u16>,
 }
 
-// Numbers as dots, unless one is none.
+// Numbers as dots, unless one is none. Their room is taken at once; what is collected would grow up to twice of it.
 fn as_dots(heap: Global, row: &[u32]) -> Result<Vec<u16>, Failure> {
-    row.iter()
-        .enumerate()
-        .map(|(at, number)| -> Result<u16, Failure> {
-            let number = *number;
-            Ok(u16::try_from(number).map_err(|_| Why::NotADot { at, number })?)
-        })
-        .try_collect(heap)
+    let mut dots = Vec::with_capacity(heap, row.len())?;
+    for (at, number) in row.iter().enumerate() {
+        let number = *number;
+        let dot = u16::try_from(number).map_err(|_| Why::NotADot { at, number })?;
+        dots.push(dot).map_err(AllocError::from)?;
+    }
+    Ok(dots)
 }
 
 impl Bench {

@@ -1,5 +1,5 @@
 -- Reading and writing are each other's inverse: a line says what is written of it, one thing at most, and in one way.
-use Rattle.std.proofs.Common.{◌≡◌, ℕ, ◌^◌, ◌<◌, ◌⊎◌, List, [], ◌∷◌, ◌++◌, length, get_or, Some, None, decimal, Option, sym, refl, ap, ◌∙◌, subst, inl, inr, arith}
+use Rattle.std.proofs.Common.{◌≡◌, ℕ, ◌^◌, ◌<◌, ◌⊎◌, Bool, List, [], ◌∷◌, ◌++◌, map, length, get_or, Some, None, decimal, Option, sym, refl, ap, ◌∙◌, subst, inl, inr, arith}
 use Rattle.std.specs.Str.Parse.{AllDigits}
 use Rattle.std.specs.List.{AllByRecursion}
 use Rattle.std.proofs.lemmas.Fmt.{decimal_is_IsNumeral, decimal_digit, decimal-digits_value, first_decimal}
@@ -7,14 +7,15 @@ use Rattle.std.proofs.lemmas.List.{append_cancel_left}
 use Rattle.std.proofs.lemmas.Str.Parse.{numerals_by_value, tells_digits}
 use Rattle.std.proofs.lemmas.Bool.{cases_eq}
 use Rattle.std.proofs.lemmas.Option.{none-some}
-use Rattle.text.specs.Keyed.{key_text, Unkeyed, assembled, spoken}
+use Rattle.text.specs.Keyed.{key_text, Unkeyed, assembled, by_flags, flags_of, spoken, IsRun}
 use Rattle.text.specs.Law.{IsRead, ReadsBack, Laws}
-use Rattle.text.specs.Rows.{Numeral, Row, row_text, capped, exact}
-use Rattle.text.specs.Said.{Said, nothing, said, keyword, numbers, written, Whole, Fitting, Order, Remark, Says, SaysExactly}
+use Rattle.text.specs.Rows.{Numeral, Row, RowBy, row_text, capped, exact}
+use Rattle.text.specs.Said.{Said, nothing, said, keyword, flag, numbers, written, Whole, Fitting, Order, Remark, Says, SaysExactly}
 use Rattle.text.specs.declared.commands.Command.{Command}
 use Rattle.text.specs.declared.keys.Key.{Key}
+use Rattle.text.specs.declared.keys.Key.TheVariants.{RunBy}
 use Rattle.text.proofs.Cuts.{same_row}
-use Rattle.text.proofs.Table.{from_some, same_key, no_remark, sound, complete, Keyable}
+use Rattle.text.proofs.Table.{from_some, same_key, no_remark, flags_are, run_from, sound, complete, Keyable}
 
 -- a number as it is written
 
@@ -135,6 +136,25 @@ read_row line key tail ns None starts row e =
     λ s h. let k = keyed_says line key tail starts s h in
     none-some s (e ∙ ap (assembled key) (same_row capped tail ns (numbers s) row k.row) ∙ k.assembles)
 read_row line key tail ns (Some c) starts row e = says_keyed line key tail starts ns (said c) row (sym e)
+
+-- a row of flags is one of their numbers, and the other way round
+
+flags_row : (text : List ℕ) (fs : List Bool) → RowBy flag capped text fs → Row capped text (map flag fs)
+flags_row text [] h = h
+flags_row text (f ∷ fs) h = (h.0, h.1, h.2, h.3, flags_row h.1 fs h.4)
+
+row_flags : (text : List ℕ) (fs : List Bool) → Row capped text (map flag fs) → RowBy flag capped text fs
+row_flags text [] h = h
+row_flags text (f ∷ fs) h = (h.0, h.1, h.2, h.3, row_flags h.1 fs h.4)
+
+pub read_run : (line tail : List ℕ) (r : Option Command) → line ≡ key_text RunBy ++ tail → IsRun tail r → IsRead line r
+read_run line tail None starts none = λ s h.
+    let k = keyed_says line RunBy tail starts s h in
+    let run = run_from (numbers s) (flags_of (numbers s)) s refl k.assembles in
+    none run.0 run.1 (row_flags tail (run.0 ∷ run.1) (subst (Row capped tail) (sym run.2) k.row))
+read_run line tail (Some c) starts run =
+    read_row line RunBy tail (map flag (run.0 ∷ run.1)) (Some c) starts (flags_row tail (run.0 ∷ run.1) run.3)
+    (ap Some run.2 ∙ ap by_flags (sym (flags_are (run.0 ∷ run.1))))
 
 pub no_key : (line : List ℕ) → (Remark line → ⊥) → ((key : Key) → Unkeyed line key) → (s : Said) → Says line s → ⊥
 no_key line some none s (inl p) = some p.0

@@ -1,10 +1,11 @@
 -- No keyword begins another, and each takes its numbers in one way.
-use Rattle.std.proofs.Common.{◌≡◌, ℕ, zero, suc, ◌<◌, Bool, true, false, cond, ◌&&◌, eqb, List, [], ◌∷◌, ◌++◌, map, length, get_or, Some, None, Option, Vec, sym, refl, ap, ◌∙◌, subst, inl, inr, arith}
+use Rattle.std.proofs.Common.{◌≡◌, ℕ, zero, suc, Bool, true, false, cond, ◌&&◌, eqb, List, [], ◌∷◌, ◌++◌, map, length, Some, None, Option, Vec, sym, refl, ap, ◌∙◌, subst, inl, inr}
 use Rattle.std.specs.List.{AllByRecursion}
 use Rattle.std.specs.Option.{option_map}
 use Rattle.std.specs.declared.alloc.Global.{Global}
 use Rattle.std.proofs.lemmas.Option.{none-some}
-use Rattle.text.specs.Keyed.{key_text, onto, flags_of, alone, by_flags, assembled, spoken, IsFlags}
+use Rattle.text.specs.Keyed.{key_text, onto, flags_of, alone, by_flags, assembled, IsRun}
+use Rattle.text.specs.Rows.{RowBy, IsRowBy, capped}
 use Rattle.text.specs.Said.{Said, plan, in_time, run_latest, run_by, chart_latest, trace_latest, when, at, dots, ring, tick, state, set_state, next, help, nothing, keyword, flag, numbers, Whole, Remark}
 use Rattle.text.specs.declared.commands.Command.{Command}
 use Rattle.text.specs.declared.commands.Command.TheVariants as command
@@ -156,29 +157,16 @@ complete next w = record { key = Next; is = refl; assembles = refl }
 complete help w = record { key = Help; is = refl; assembles = refl }
 complete nothing w = absurd w
 
--- the steps of reading flags
+-- a run is by some flags
+pub run_from : (ns : List ℕ) (o : Option (List Bool)) (s : Said) → flags_of ns ≡ o → by_flags o ≡ Some s → (f : Bool) × (fs : List Bool) × (map flag (f ∷ fs) ≡ ns)
+run_from ns None s e h = absurd (none-some s h)
+run_from ns (Some []) s e h = absurd (none-some s h)
+run_from ns (Some (f ∷ fs)) s e h = (f, fs, flags_from ns (f ∷ fs) e)
 
-flags_at : (fs : List Bool) (i : ℕ) → i < length (map flag fs) → (f : Bool) × (flag f ≡ get_or (map flag fs) i 0)
-flags_at [] i l = absurd (omega arith)
-flags_at (f ∷ fs) zero l = (f, refl)
-flags_at (f ∷ fs) (suc i) l = flags_at fs i (omega arith)
-
-pub no_flag : (ns : List ℕ) (i : ℕ) → i < length ns → ((f : Bool) → flag f ≡ get_or ns i 0 → ⊥) → (fs : List Bool) → map flag fs ≡ ns → ⊥
-no_flag ns i l none fs e =
-    let p = flags_at fs i (omega (arith, ap length e)) in
-    none p.0 (p.1 ∙ ap (λ (t : List ℕ). get_or t i 0) e)
-
-run_some : (ns : List ℕ) (fs : List Bool) → map flag fs ≡ ns → (length ns ≡ 0 → ⊥) → Some (run_by fs) ≡ by_flags (flags_of ns)
-run_some ns [] e some = absurd (some (ap length (sym e)))
-run_some ns (f ∷ fs) e some = ap by_flags (sym (flags_are (f ∷ fs)) ∙ ap flags_of e)
-
-flags_none : (ns : List ℕ) (o : Option (List Bool)) → flags_of ns ≡ o → ((fs : List Bool) → map flag fs ≡ ns → ⊥) → None ≡ by_flags o
-flags_none ns None e none = refl
-flags_none ns (Some fs) e none = absurd (none fs (flags_from ns fs e))
-
-run_none : (ns : List ℕ) → ((fs : List Bool) → map flag fs ≡ ns → ⊥) → None ≡ by_flags (flags_of ns)
-run_none ns none = flags_none ns (flags_of ns) refl none
-
-pub run_is : (ns : List ℕ) (o : Option (Vec Bool Global)) (r : Option Command) → r ≡ option_map command.RunBy o → IsFlags ns o → (length ns ≡ 0 → ⊥) → spoken r ≡ by_flags (flags_of ns)
-run_is ns None r e h some = ap spoken e ∙ run_none ns h
-run_is ns (Some flags) r e h some = ap spoken e ∙ run_some ns flags.items h some
+-- what flags, or none, make of a text that is not empty
+pub run_is : (text : List ℕ) (o : Option (Vec Bool Global)) (r : Option Command) → r ≡ option_map command.RunBy o → IsRowBy flag text o → (length text ≡ 0 → ⊥) → IsRun text r
+run_is text None r e h some = subst (IsRun text) (sym e) (λ f fs. h (f ∷ fs))
+run_is text (Some flags) r e h some = subst (IsRun text) (sym e) (by_items flags.items refl h) where
+  by_items : (fs : List Bool) → flags.items ≡ fs → RowBy flag capped text fs → IsRun text (Some (command.RunBy flags))
+  by_items [] is row = absurd (some (ap length row))
+  by_items (f ∷ fs) is row = (f, fs, ap run_by is, row)

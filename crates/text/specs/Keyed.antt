@@ -1,7 +1,7 @@
 -- The keywords, and what each makes of the numbers behind it: steps on the way from a line to what it says. Assumes nothing: these are definitions.
-use Rattle.std.specs.Prelude.{◌≡◌, ℕ, zero, suc, Bool, true, false, List, [], ◌∷◌, ◌++◌, map, Some, None, vec_items, codes, Option, Vec, MatchOption, ◌≢◌}
+use Rattle.std.specs.Prelude.{◌≡◌, ℕ, zero, suc, Bool, true, false, List, [], ◌∷◌, ◌++◌, Some, None, codes, Option, MatchOption, ◌≢◌}
 use Rattle.std.specs.Borrow.{Bor}
-use Rattle.std.specs.declared.alloc.Global.{Global}
+use Rattle.text.specs.Rows.{RowBy, capped}
 use Rattle.text.specs.Said.{Said, said, flag, plan, in_time, run_latest, run_by, chart_latest, trace_latest, when, at, dots, ring, tick, state, set_state, next, help}
 use Rattle.text.specs.declared.commands.Command.{Command}
 use Rattle.text.specs.declared.keys.Key.{Key}
@@ -91,9 +91,10 @@ abbrev pub spoken : Option Command → Option Said
 spoken None = None
 spoken (Some c) = Some (said c)
 
--- what reading a flag, or flags, may answer
+-- what reading a flag may answer
 abbrev pub IsFlag : ℕ → Option Bool → Type 0
 IsFlag n r = MatchOption r ((f : Bool) → flag f ≢ n) (λ f. flag f ≡ n)
 
-abbrev pub IsFlags : List ℕ → Option (Vec Bool Global) → Type 0
-IsFlags ns r = MatchOption r ((fs : List Bool) → map flag fs ≢ ns) (λ v. map flag (vec_items v) ≡ ns)
+-- what reading a run may answer: one by the flags that the text says, which are some
+abbrev pub IsRun : List ℕ → Option Command → Type 0
+IsRun text r = MatchOption r ((f : Bool) (fs : List Bool) → RowBy flag capped text (f ∷ fs) → ⊥) (λ c. (f : Bool) × (fs : List Bool) × (said c ≡ run_by (f ∷ fs)) × RowBy flag capped text (f ∷ fs))

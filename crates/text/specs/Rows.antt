@@ -17,10 +17,14 @@ pub record Numeral (read : ℕ → ℕ) (word : List ℕ) (n : ℕ) : Type 0 whe
   pub lone_zero : slice_index_or word 0 0 ≡ 48 → length word ≡ 1
   pub is : n ≡ read (digits_value 10 word)
 
--- the text has a space and a numeral for each number, and nothing else
+-- the text has a space and a numeral for each item, of the number that it stands for, and nothing else
+abbrev pub RowBy : {A : Type 0} → (A → ℕ) → (ℕ → ℕ) → List ℕ → List A → Type 0
+RowBy number read text [] = text ≡ []
+RowBy number read text (x ∷ xs) = (word rest : List ℕ) × (text ≡ 32 ∷ (word ++ rest)) × Numeral read word (number x) × RowBy number read rest xs
+
+-- of numbers
 abbrev pub Row : (ℕ → ℕ) → List ℕ → List ℕ → Type 0
-Row read text [] = text ≡ []
-Row read text (n ∷ ns) = (word rest : List ℕ) × (text ≡ 32 ∷ (word ++ rest)) × Numeral read word n × Row read rest ns
+Row = RowBy (λ n. n)
 
 -- the text that is written of a row whose items stand for numbers: each behind one space
 abbrev pub row_text_by : {A : Type 0} → (A → ℕ) → List A → List ℕ
@@ -35,5 +39,11 @@ row_text = row_text_by (λ n. n)
 abbrev pub IsNumeral : List ℕ → Option ℕ → Type 0
 IsNumeral word r = MatchOption r ((n : ℕ) → Numeral capped word n → ⊥) (λ n. Numeral capped word n)
 
+abbrev pub IsItem : {A : Type 0} → (A → ℕ) → List ℕ → Option A → Type 0
+IsItem {A = A} number word r = MatchOption r ((x : A) → Numeral capped word (number x) → ⊥) (λ x. Numeral capped word (number x))
+
+abbrev pub IsRowBy : {A : Type 0} → (A → ℕ) → List ℕ → Option (Vec A Global) → Type 0
+IsRowBy {A = A} number text r = MatchOption r ((xs : List A) → RowBy number capped text xs → ⊥) (λ v. RowBy number capped text (vec_items v))
+
 abbrev pub IsRow : List ℕ → Option (Vec ℕ Global) → Type 0
-IsRow text r = MatchOption r ((ns : List ℕ) → Row capped text ns → ⊥) (λ v. Row capped text (vec_items v))
+IsRow = IsRowBy (λ n. n)

@@ -1,9 +1,11 @@
 // The commands, and how a line is read as one.
-ghost use Rattle.std.specs.Prelude.{◌≡◌, IfOk, string_bytes, Decides};
-ghost use Rattle.text.specs.Keyed.{assembled, spoken, alone, when_of, at_of, by_flags, flags_of, IsFlag, IsFlags};
+ghost use Rattle.std.specs.Prelude.{◌≡◌, IfOk, string_bytes, Decides, ◌≢◌};
+ghost use Rattle.text.specs.Keyed.{assembled, spoken, alone, when_of, at_of, IsRun};
+ghost use Rattle.text.specs.declared.keys.Key.TheVariants.{RunBy};
 ghost use Rattle.text.specs.Law.{IsRead, ReadsBack, Laws};
 ghost use Rattle.text.specs.Said.{said, written, Remark, Fitting, Says};
 
+use crate::flags::flags;
 use crate::keys::Key;
 use crate::rows::numbers;
 use std::alloc::{AllocError, Global};
@@ -47,10 +49,13 @@ impl Command {
         let Some((key, tail)) = Key::split(line) else {
             return Ok(None);
         };
+        if let Key::RunBy = key {
+            return run_by(heap, tail);
+        }
         let Some(row) = numbers(heap, tail)? else {
             return Ok(None);
         };
-        with_numbers(heap, key, row)
+        Ok(with_numbers(key, row))
     }
 
     // The line that says it.
@@ -70,15 +75,25 @@ fn asks_nothing(line: &[u8]) -> bool
     matches!(line, [] | [b'#', ..])
 }
 
-// The command of a key with numbers behind it, where it takes those.
-fn with_numbers(heap: Global, key: Key, row: Vec<u32>) -> Result<Option<Command>, AllocError>
-    ensures { IfOk result (λ command. spoken command ≡ assembled key row.items) }
+// A run has at least one flag.
+fn run_by(heap: Global, text: &[u8]) -> Result<Option<Command>, AllocError>
+    ensures { IfOk result (λ command. IsRun text.now command) }
 {
-    let command = match (key, row.as_slice()) {
+    if text.is_empty() {
+        return Ok(None);
+    }
+    Ok(flags(heap, text)?.map(Command::RunBy))
+}
+
+// The command of another key with numbers behind it, where it takes those.
+fn with_numbers(key: Key, row: Vec<u32>) -> Option<Command>
+    requires { key ≢ RunBy }
+    ensures { spoken result ≡ assembled key row.items }
+{
+    match (key, row.as_slice()) {
         (Key::Plan, _) => Some(Command::Plan(row)),
         (Key::InTime, []) => Some(Command::InTime),
         (Key::RunLatest, []) => Some(Command::RunLatest),
-        (Key::RunBy, willing) => run_by(heap, willing)?,
         (Key::ChartLatest, []) => Some(Command::ChartLatest),
         (Key::TraceLatest, []) => Some(Command::TraceLatest),
         (Key::When, [x, y]) => Some(Command::When(Dot { x: *x, y: *y })),
@@ -90,41 +105,6 @@ fn with_numbers(heap: Global, key: Key, row: Vec<u32>) -> Result<Option<Command>
         (Key::State, _) => Some(Command::SetState(row)),
         (Key::Next, []) => Some(Command::Next),
         (Key::Help, []) => Some(Command::Help),
-        _ => None,
-    };
-    Ok(command)
-}
-
-// A run has at least one flag.
-fn run_by(heap: Global, row: &[u32]) -> Result<Option<Command>, AllocError>
-    ensures { IfOk result (λ command. spoken command ≡ by_flags (flags_of row.now)) }
-{
-    if row.is_empty() {
-        return Ok(None);
-    }
-    Ok(flags(heap, row)?.map(Command::RunBy))
-}
-
-// Zeros and ones as flags. The loop of `numbers`, over other items: one function of both would be lent what reads an item, and say less of either.
-fn flags(heap: Global, row: &[u32]) -> Result<Option<Vec<bool>>, AllocError>
-    ensures { IfOk result (λ flags. IsFlags row.now flags) }
-{
-    let mut flags = Vec::new(heap);
-    for n in row {
-        let Some(willing) = flag_of(*n) else {
-            return Ok(None);
-        };
-        flags.push(willing)?;
-    }
-    Ok(Some(flags))
-}
-
-fn flag_of(n: u32) -> Option<bool>
-    ensures { IsFlag n result }
-{
-    match n {
-        0 => Some(false),
-        1 => Some(true),
         _ => None,
     }
 }

@@ -2,6 +2,7 @@
 #![tactic(auto)]
 
 mod commands;
+mod flags;
 mod keys;
 mod rows;
 mod writing;

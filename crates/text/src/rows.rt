@@ -5,7 +5,7 @@ ghost use Rattle.text.specs.Rows.{IsNumeral, IsRow};
 use std::alloc::{AllocError, Global};
 
 // A row of digits with no zero before it. One too large for its type is the largest that its type has, which is out of every range.
-fn numeral(word: &[u8]) -> Option<u32>
+pub fn numeral(word: &[u8]) -> Option<u32>
     ensures { IsNumeral word.now result }
 {
     if let [] | [b'0', _, ..] = word {

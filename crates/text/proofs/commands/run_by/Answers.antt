@@ -5,4 +5,4 @@ use Rattle.text.proofs.Table.{run_is}
 use Rattle.text.proofs.commands.run_by.Goals as goal
 
 pub returns : goal.returns
-returns c = run_is c.args.row.now c.in_ok-flags.field-0 c.map.result (search rules) c.in_ok-flags.ensures (eqb-false _ _ (sym c.if-is_empty.ensures))
+returns c = run_is c.args.text.now c.in_ok-flags.field-0 c.map.result (search rules) c.in_ok-flags.ensures (eqb-false _ _ (sym c.if-is_empty.ensures))

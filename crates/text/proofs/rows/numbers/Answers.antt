@@ -12,7 +12,7 @@ use Rattle.text.proofs.Cuts.{is_space, row_is, words_more, no_word, no_row}
 use Rattle.text.proofs.rows.numbers.Goals as goal
 
 pub returns-in_default : goal.returns-in_default
-returns-in_default c = no_row capped c.args.text.now (eqb-false _ _ (sym c.if-is_empty.ensures)) (strip_prefix_is Decides-eqb c.args.text.now (32 ∷ []) None c.in_default.ensures.cases)
+returns-in_default c = no_row (λ n. n) capped c.args.text.now (eqb-false _ _ (sym c.if-is_empty.ensures)) (strip_prefix_is Decides-eqb c.args.text.now (32 ∷ []) None c.in_default.ensures.cases)
 
 pub returns-in_default-numeral : goal.returns-in_default-numeral
 returns-in_default-numeral c =
@@ -21,12 +21,12 @@ returns-in_default-numeral c =
     (YieldsList-from_slice_split _ is_space c.in-Some.words.now c.split-word-items.ensures.rest c.split-word-items.ensures.done c.split-word-items.ensures.closure (λ x b q k. search (rules, tests))))
     c.loop-word.yielded _ c.loop-word.yielded_by _ _ _ c.in-Some-word.is c.next.ensures.steps in
     let spaced = strip_prefix_is Decides-eqb c.args.text.now (32 ∷ []) (Some c.in-Some.words) c.in-Some.ensures.cases in
-    no_word capped c.args.text.now c.in-Some.words.now _ c.in-Some-word.word.now spaced turn.0 turn.1 c.in_default-numeral.ensures
+    no_word (λ n. n) capped c.args.text.now c.in-Some.words.now _ c.in-Some-word.word.now spaced turn.0 turn.1 c.in_default-numeral.ensures
 
 pub loop-word-preserved : goal.loop-word-preserved
 loop-word-preserved c =
     subst (λ ws. AllZip (Numeral capped) ws (vec_items c.push.new.self)) (sym (map_push (λ w. w.now) c.loop-word.yielded c.in-Some-word.word))
-    (subst (AllZip (Numeral capped) _) (sym c.in_ok-push.ensures.items) (words_more capped _ _ _ _ c.loop-word.invariant c.in-Some-numeral.ensures))
+    (subst (AllZip (Numeral capped) _) (sym c.in_ok-push.ensures.items) (words_more (λ n. n) capped _ _ _ _ c.loop-word.invariant c.in-Some-numeral.ensures))
 
 pub returns : goal.returns
 returns c =
@@ -35,4 +35,4 @@ returns c =
     (YieldsList-from_slice_split _ is_space c.in-Some.words.now c.split-word-items.ensures.rest c.split-word-items.ensures.done c.split-word-items.ensures.closure (λ x b q k. search (rules, tests))))
     c.loop-word.yielded _ c.loop-word.yielded_by _ _ c.in-None.is c.next.ensures.steps in
     let spaced = strip_prefix_is Decides-eqb c.args.text.now (32 ∷ []) (Some c.in-Some.words) c.in-Some.ensures.cases in
-    subst (λ t. Row capped t (vec_items c.loop-word.row)) (sym spaced) (row_is capped c.in-Some.words.now _ (subst (λ ws. AllZip (Numeral capped) ws (vec_items c.loop-word.row)) seen.0 c.loop-word.invariant))
+    subst (λ t. Row capped t (vec_items c.loop-word.row)) (sym spaced) (row_is (λ n. n) capped c.in-Some.words.now _ (subst (λ ws. AllZip (Numeral capped) ws (vec_items c.loop-word.row)) seen.0 c.loop-word.invariant))

@@ -1,4 +1,4 @@
-use Rattle.std.proofs.Common.{◌≡◌, ◌+◌, ◌*◌, ◌/◌, ◌%◌, min, Bool, true, false, cond, ltb, length, refl, ap, ◌∙◌, suc, zero-mul, add-one, arith}
+use Rattle.std.proofs.Common.{◌≡◌, ◌+◌, ◌*◌, ◌/◌, ◌%◌, min, Bool, true, false, cond, ltb, length-set, refl, ap, ◌∙◌, suc, zero-mul, add-one, arith}
 use mir.Val.{bool_byte}
 use Rattle.timing.specs.declared.plans.Plan.{Plan}
 use Rattle.feeder.specs.Step.{plan_in}
@@ -10,7 +10,7 @@ pub loop-column-init : goal.loop-column-init
 loop-column-init c = record {
   plan = refl;
   tick = c.start-probe.ensures.tick ∙ omega (arith, zero-mul (c.frame_ticks-ticks.result / c.min-count.result));
-  size = ap length c.new-columns.ensures;
+  size = refl;
   done = columns_none _ _ _ _;
 }
 
@@ -32,11 +32,11 @@ loop-column-preserved c =
     record {
       plan = m.plan ∙ at.plan;
       tick = rw (add-one i) (omega (arith, m.tick, at.tick, more, on));
-      size = c.push.ensures.len ∙ omega (arith, at.size);
-      done = rw c.push.ensures.items (columns_more _ (t / n) (t % n) i c.loop-column.columns.items c.measure.result at.size at.done here);
+      size = length-set c.loop-column.columns i c.measure.result ∙ at.size;
+      done = columns_more _ (t / n) (t % n) i c.loop-column.columns c.measure.result (omega (arith, at.size, c.min-count.ensures)) at.done here;
     }
 
 pub returns : goal.returns
 returns c =
     let some = frame_some _ c.args.plan.ok in
-    charted c.args.plan.numbers c.frame_ticks-ticks.result c.min-count.result _ _ _ c.loop-column.column c.frame_ticks-ticks.ensures (omega (arith, c.frame_ticks-ticks.ensures)) c.min-count.ensures (ap (λ (q : Plan). q.numbers) c.start-probe.ensures.plan) (omega arith) c.loop-column.invariant
+    charted c.args.plan.numbers c.frame_ticks-ticks.result _ _ _ c.loop-column.column c.frame_ticks-ticks.ensures (omega (arith, c.frame_ticks-ticks.ensures)) c.min-count.ensures (ap (λ (q : Plan). q.numbers) c.start-probe.ensures.plan) (omega arith) c.loop-column.invariant
