@@ -23,8 +23,6 @@ pub use refusals::Refusal;
 
 #[cfg(test)]
 mod tests {
-    ghost use Rattle.std.specs.Prelude.{true, slice_index};
-
     use super::*;
     use std::process::Abort;
     use std::test::Fail;
@@ -278,11 +276,14 @@ mod tests {
     }
 
     // A picture that is handed out by bursts alone.
+    #[derive(Clone, Copy)]
     struct Bursts<'a> {
         behind: Stored<'a>,
     }
 
     impl<'a> Picture for Bursts<'a> {
+        ghost use Rattle.std.specs.Prelude.{slice_index};
+
         ghost dots = { λ p k. slice_index p.behind.dots.now k };
 
         fn copy(&self, first: u32, part: &mut [u16]) {
@@ -291,12 +292,15 @@ mod tests {
     }
 
     // A memory of which nothing is known but its dots: it is willing each third time that it is asked.
+    #[derive(Clone, Copy)]
     struct Whim<'a> {
         picture: Bursts<'a>,
         asked: u32,
     }
 
     impl<'a> Memory for Whim<'a> {
+        ghost use Rattle.std.specs.Prelude.{true, slice_index};
+
         ghost script = { λ m. record { dots = λ f k. slice_index m.picture.behind.dots.now k; may = λ f t said. true } };
 
         fn willing(&mut self, _tick: u32) -> bool {

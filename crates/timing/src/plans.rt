@@ -48,7 +48,7 @@ impl Plan {
             (numbers.latency, 1, Plan::MAX_LATENCY),
         ];
         for (place, &(number, least, most)) in limits.iter().enumerate() {
-            if !(least..=most).contains(&number) {
+            if number < least || number > most {
                 return Err(PlanRefusal::OutOfRange { place, least, most });
             }
         }

@@ -4,8 +4,8 @@ use Rattle.timing.proofs.Ranges.{range_tests}
 use Rattle.timing.proofs.Rows.{good_row, limits_at}
 use Rattle.timing.proofs.plans.Plan.new.Goals as goal
 
-pub returns-then-not-contains : goal.returns-then-not-contains
-returns-then-not-contains c =
+pub returns-then-number-least : goal.returns-then-number-least
+returns-then-number-least c =
     let of_row : c.from-numbers.result ≡ numbers_in c.args.row.now = search rules in
     let there = limits_at c.args.row.now c.from-numbers.result c.loop-place.place of_row (omega arith) in
     record {
